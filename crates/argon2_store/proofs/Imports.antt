@@ -1,31 +1,24 @@
 -- The words that the proofs of this crate use.
-pub use Rattle.std.proofs.Common.{Bool, Err, IsPermutation, IsTrue, IsUtf8, List, None, Ok, Option, Result, Some, [], ap}
-pub use Rattle.std.proofs.Common.{append_assoc, ap₂, arith, cond, false, inl, inr, length, map, refl, rules, slice_index, string_bytes, subst}
+pub use Rattle.std.proofs.Common.{Bool, Err, IsTrue, IsUtf8, List, None, Ok, Option, Result, Some, [], ap}
+pub use Rattle.std.proofs.Common.{append_assoc, ap₂, arith, false, inl, inr, length, map, refl, rules, slice_index, string_bytes, subst}
 pub use Rattle.std.proofs.Common.{suc, zero, subst₂, sym, true, unwrap_or, ℕ, ◌++◌, ◌<◌, ◌↔◌, ◌∙◌, ◌∷◌, ◌≡◌, ◌≤◌, ◌⊎◌}
 pub use Rattle.std.proofs.Math.Logic.{∥∥₁_elim, ∥∥₁_map}
-pub use Rattle.std.proofs.lemmas.Bool.{cases_Bool, cases_eq, iff_false, true_from_ne_false}
+pub use Rattle.std.proofs.lemmas.Bool.{cases_Bool, cases_eq, iff_false, true_from_ne_false, both_ways}
 pub use Rattle.std.proofs.lemmas.List.{get_or-map, length-map, nil_from_length}
 pub use Rattle.std.proofs.lemmas.Result.{on_ok_weaker}
 pub use Rattle.std.proofs.lemmas.Slice.Eq.{bytes_eq-Decides}
-pub use Rattle.std.specs.Str.{bytes_eq}
 pub use Rattle.std.proofs.option.Match.{None-if_not_some}
-pub use Rattle.std.specs.Borrow.{Bor}
-pub use Rattle.std.specs.Coded.{coded_list}
-pub use Rattle.std.specs.FinMap.{empty, get}
+pub use Rattle.std.specs.FinMap.{empty, get, get-empty}
 pub use Rattle.std.specs.List.{flat_map, range_with_len}
-pub use Rattle.std.specs.Option.{is_some, option_copied, option_map}
+pub use Rattle.std.specs.Option.{option_copied, option_map}
 pub use Rattle.std.specs.Prelude.{Any, IfErr, IfOk, IfSome, IsSome, IsErrAnd, IsSomeAnd, OnOk, String}
-pub use Rattle.sqlite_pages.specs.PageMap.{PageMap}
 pub use Rattle.sqlite_pool.proofs.StateLemmas.{clean_if_left, clean_is, size_is_allowed}
-pub use Rattle.sqlite_pool.specs.File.{IsSoundFile, in_use}
 pub use Rattle.sqlite_pool.specs.Opening.{IsBlankFile}
-pub use Rattle.sqlite_pool.specs.Stored.{IsUnreadable, Recovers, RecoversAs, reserved, sealed, stored_size}
+pub use Rattle.sqlite_pool.specs.Stored.{Recovers, RecoversAs, reserved, sealed, stored_size}
 pub use Rattle.sqlite_pool.specs.StoredLaws.{RecoversAs-from, length-sealed, readable, recovers_once, trimmed_whole}
-pub use Rattle.sqlite_store.specs.Db.{IsFile, rows_at}
 pub use Rattle.sqlite_store.specs.FileStore.{files, reading, recovers, schema_in, schema_of, state, view}
 pub use Rattle.sqlite_store.specs.Laws.{not_broken, settled_at}
 pub use Rattle.sqlite_store.specs.Listed.{catalog_rows, same_listing}
-pub use Rattle.sqlite_store.specs.Listing.{all_shapes, file_trees, listed_from}
 pub use Rattle.sqlite_store.specs.Saved.{kept_schema}
 pub use Rattle.sqlite_store.specs.Unopened.{files_of, image, state_of, wanted_by}
 pub use Rattle.sqlite_store.specs.declared.store.FileStore.{FileStore}
@@ -34,26 +27,25 @@ pub use Rattle.sqlite_trees.specs.Objects.{catalog_tree}
 pub use Rattle.sqlite_trees.specs.Tree.{Trees}
 pub use Rattle.sqlite_trees.specs.View.{IsClean}
 pub use Rattle.sqlite_trees.specs.declared.error.StoreError.{StoreError}
-pub use Rattle.sqlite_trees.specs.declared.store.Shape.TheVariants.{Index}
+pub use Rattle.sqlite_trees.specs.declared.store.Shape.TheVariants.{Index, Table}
 pub use Rattle.sqlite_trees.specs.declared.store.Store.{Ghosts}
-pub use Rattle.sqlite_value.specs.Keys.{plain}
 pub use Rattle.sqlite_value.specs.Order.{Row}
-pub use Rattle.sqlite_wal.proofs.CleanLemmas.{both_clean, halves}
+pub use Rattle.sqlite_wal.proofs.CleanLemmas.{halves}
 pub use Rattle.sqlite_wal.proofs.LogLemmas.{SeenMayStay}
 pub use Rattle.sqlite_wal.proofs.PartLemmas.{held_is_part, part_within, slice_index-part}
 pub use Rattle.sqlite_wal.specs.Files.{outcomes, seen_image}
-pub use Rattle.sqlite_wal.specs.Format.{be32, checksum, is_big, part}
+pub use Rattle.sqlite_wal.specs.Format.{checksum, is_big, part}
 pub use Rattle.sqlite_wal.specs.Recovery.{AreWhole, Image, IsIgnored, Replays, header, pages_after}
-pub use Rattle.argon2_store.specs.Opening.{AreUnharmed, FoundIn, HoldsNames, IsAfterOpens, IsTableOf, IsUnstarted, LeavesNames, MayHave, StandsFor}
-pub use Rattle.argon2_rows.specs.Rows.{rows_of}
-pub use Rattle.argon2_rows.specs.Table.{Changes, HasFailed, HasRows, HoldsTable, IsUnwritten, IsHonest, IsLong, IsOpen, CrashLeaves, StaysQuiet, account}
+pub use Rattle.argon2_store.specs.Opening.{AreUnharmed, FoundIn, HoldsNames, IsAfterOpens, IsTableOf, IsUnstarted, LeavesNames, MayHave, StandsFor, IsDamaged, IsOfDamage, IsOfPair, ListsOne}
+pub use Rattle.argon2_rows.specs.Table.{Changes, HasFailed, HasRows, HoldsTable, IsUnwritten, IsHonest, IsLong, IsOpen, CrashLeaves, StaysQuiet, account, AddsNames, Finishes, Writes, catalog, IsDue, IsTold}
 pub use Rattle.argon2_store.specs.declared.account_file.AccountFile.{AccountFile}
 pub use Rattle.argon2_store.specs.declared.error.FileError.{FileError}
-pub use Rattle.argon2_rows.specs.Locks.{behind_lock, is_locked, without_lock}
 pub use Rattle.argon2_rows.specs.Names.{AddsAll, IsFirstTaken, Texts, changed, entry_of}
-pub use Rattle.argon2_rows.specs.Table.{AddsNames, Finishes, Writes}
-pub use Rattle.argon2_store.specs.AccountFile.{Answers, IsClosed, IsErrorAt, IsFileFrom, Makes, Serves, Stays, error_of, database_of}
-pub use Rattle.argon2_store.specs.Edits.{Edit, IsTooLong, adding, additions, gives, left_by, locking, name_of, names_after, refusal, removing, replacing, setting, text_of, unlocking}
-pub use Rattle.argon2_store.specs.Errors.{call_error, is_refusal, read_of}
+pub use Rattle.argon2_rows.proofs.RowLemmas.{rows_of-once, get-at, changed_back, texts_changed}
+pub use Rattle.argon2_rows.proofs.TableLemmas.{Settled, Keeps, err_is, leaves_kept, leaves_quiet, on_all, quiet_itself, has_same, some_kept, changes_of, has_either, writes_nothing, reads_keep, shape_of, taken_back}
+pub use Rattle.sqlite_wal.specs.Reads.{AreClean, OnlyReads}
+pub use Rattle.argon2_store.specs.AccountFile.{Answers, IsClosed, IsErrorAt, Makes, Serves, Stays, error_of, database_of, HasNames, IsReady, HasCause, HasFailedBy, NamesStay}
+pub use Rattle.argon2_store.specs.Edits.{Edit, IsTooLong, adding, additions, gives, left_by, name_of, names_after, refusal}
+pub use Rattle.argon2_store.specs.Errors.{call_error, is_refusal, read_of, IsOfDatabase, lines_by, read_by}
 pub use Rattle.argon2_store.specs.Runs.{AreEventsOf, AreMade, Did, Does, EndsRun, FileCall, FileEvent, FileRun, IsFoundAfter, IsLate, IsLateOf, IsShutOut, events_of, makes, over_file, reads, text_by}
-pub use Rattle.argon2_store.specs.declared.error.FileError.TheVariants.{Changed, Closed, Locked, NameTaken, NameUnknown, OutOfMemory}
+pub use Rattle.argon2_store.specs.declared.error.FileError.TheVariants.{Closed, NameTaken, OutOfMemory}

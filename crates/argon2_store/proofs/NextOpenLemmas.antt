@@ -1,35 +1,48 @@
 -- What an open finds after opens that failed, and what the next one finds then.
-use Rattle.argon2_store.proofs.Imports.{◌≡◌, ℕ, List, [], ◌∷◌, inl, inr, refl, sym, ap, ap₂, subst, subst₂, ◌∙◌, arith, ∥∥₁_elim, ∥∥₁_map, Row, outcomes}
-use Rattle.argon2_store.proofs.Imports.{seen_image, AreWhole, Image, PageMap, IsSoundFile, in_use, IsBlankFile, IsUnreadable, Recovers, RecoversAs}
-use Rattle.argon2_store.proofs.Imports.{catalog_tree, Trees, rows_at, state, all_shapes, listed_from, FileStore, FoundIn}
-use Rattle.argon2_store.proofs.Imports.{IsUnstarted, MayHave, StandsFor, account, ◌≤◌, Option, None, length, slice_index, unwrap_or}
-use Rattle.argon2_store.proofs.Imports.{Some, cases_eq, plain, be32, part, IsIgnored, Replays, pages_after, part_within, slice_index-part, coded_list}
-use Rattle.argon2_store.proofs.Imports.{range_with_len, length-map, reserved, sealed, stored_size, length-sealed, recovers_once, Index, IsFile, recovers}
-use Rattle.argon2_store.proofs.Imports.{same_listing, file_trees, Texts, HoldsNames, IsAfterOpens, LeavesNames, rows_of, HoldsTable}
+use Rattle.argon2_store.proofs.Imports.{◌≡◌, ℕ, List, [], ◌∷◌, inl, inr, refl, sym, ap, ap₂, subst, subst₂, ◌∙◌, arith, ∥∥₁_elim, ∥∥₁_map, Row, outcomes, seen_image}
+use Rattle.argon2_store.proofs.Imports.{AreWhole, Image, IsBlankFile, Recovers, RecoversAs, catalog_tree, Trees, state, FileStore, FoundIn, IsUnstarted, MayHave}
+use Rattle.argon2_store.proofs.Imports.{StandsFor, account, ◌≤◌, length, slice_index, unwrap_or, Some, cases_eq, part, IsIgnored, Replays, pages_after}
+use Rattle.argon2_store.proofs.Imports.{part_within, slice_index-part, range_with_len, length-map, reserved, sealed, stored_size, length-sealed, recovers_once}
+use Rattle.argon2_store.proofs.Imports.{Index, recovers, same_listing, Texts, HoldsNames, IsAfterOpens, LeavesNames, HoldsTable, Table, catalog, rows_of-once}
+use Rattle.sqlite_pages.specs.PageMap.{PageMap}
+use Rattle.sqlite_value.specs.Keys.{plain}
 use Rattle.sqlite_disk.specs.declared.Disk.{Ghosts}
-use Rattle.sqlite_trees.specs.declared.store.Shape.TheVariants.{Table}
-use Rattle.sqlite_store.specs.Listing.{all_trees, all_reals, all_shapes}
-use Rattle.argon2_rows.specs.Table.{catalog}
+use Rattle.sqlite_store.specs.Listing.{all_trees, all_reals, all_shapes, listed_from, file_trees}
 use Rattle.sqlite_wal.proofs.RecoveryLemmas.{recovers_once as raw_once, replays_once}
 use Rattle.sqlite_wal.proofs.AppendLemmas.{page_from_pages, some_value}
-use Rattle.sqlite_wal.specs.PageSize.{IsPageSize}
 use Rattle.sqlite_pool.specs.Header.{first_page}
 use Rattle.std.proofs.lemmas.List.FromFn.{length-range_with_len}
+use Rattle.std.specs.Coded.{Coded-set, coded_list}
 use mathlib.Core.HLevel.{⊥_prop}
 use base.Stored.{Gv, gcons, gnil, gnum, num}
-use Rattle.sqlite_pool.specs.File.{in_use, unlocked}
+use Rattle.sqlite_pool.specs.File.{in_use, unlocked, IsSoundFile}
 use Rattle.sqlite_pool.specs.FreeList.{live}
 use Rattle.sqlite_pool.proofs.PoolLemmas.{none_of}
 use Rattle.sqlite_pool.proofs.ProbeLemmas.{first_byte, not_blank, reserved_word, size_by_file, size_by_log}
 use Rattle.sqlite_pool.proofs.ResealLemmas.{adopts_of}
 use Rattle.sqlite_btree.proofs.StoredLemmas.{stored_root_live}
 use Rattle.sqlite_store.specs.Catalog.{describes, is_about, root_in}
-use Rattle.sqlite_store.specs.Db.{roots_of, trees_in}
+use Rattle.sqlite_store.specs.Db.{roots_of, trees_in, rows_at, IsFile}
 use Rattle.sqlite_store.specs.declared.catalog.Wanted.{Wanted}
 use Rattle.argon2_store.proofs.OpenLemmas.{left_table, stands_for}
-use Rattle.argon2_rows.proofs.RowLemmas.{rows_of-once}
 use Rattle.sqlite_wal.specs.Recovery as raw
 use Rattle.sqlite_value.specs.contracts.row.Row as row
+
+-- ---- an equation that can't be false holds
+
+same_number : (m n : ℕ) → ¬ ¬ (m ≡ n) → m ≡ n
+same_number m n h = elim (cases_eq m n) [ inl same ↦ same | inr other ↦ absurd (h other) ]
+
+stable : (a b : Gv) → ¬ ¬ (a ≡ b) → a ≡ b
+stable gnil gnil h = refl
+stable (gnum m) (gnum n) h = ap gnum (same_number m n (λ never. h (λ e. never (ap num e))))
+stable (gcons a d) (gcons b c) h = ap₂ gcons (stable a b (λ never. h (λ e. never cc))) (stable d c (λ never. h (λ e. never cc)))
+stable a b h = absurd (h (λ e. cc))
+
+rows_stable : (a b : List Row) → ¬ ¬ (a ≡ b) → a ≡ b
+rows_stable a b h =
+    let c = coded_list row.the_row.coded in
+    c.inj a b (stable (c.code a) (c.code b) (λ never. h (λ e. never (ap c.code e))))
 
 -- ---- the size of a page
 
@@ -39,27 +52,17 @@ once : (img : Image) (a b : ℕ) (p q : PageMap) → Recovers a img p → Recove
 once img a b p q found also large big sound whole =
     let first = adopts_of a img p found in
     let second = adopts_of b img q also in
-    let stored : stored_size a ≡ stored_size b = elim (cases_eq (stored_size a) (stored_size b)) [
-      | inl same ↦ same
-      | inr other ↦
-          let ignored : ¬ (¬ IsIgnored img.log) = λ read.
-          other (sym (size_by_log a img p first read) ∙ size_by_log b img q second read) in
-          absurd (ignored (λ none. other (sym (size_by_file a img p first large sound none)
-          ∙ size_by_file b img q second big whole none)))
-    ] in
+    let stored : stored_size a ≡ stored_size b = same_number _ _ (λ never.
+    let ignored = λ (read : ¬ IsIgnored img.log).
+    never (sym (size_by_log a img p first read) ∙ size_by_log b img q second read) in
+    ignored (λ none. never (sym (size_by_file a img p first large sound none) ∙ size_by_file b img q second big whole none))) in
     let one = reserved_word a img p first large sound in
     let two = reserved_word b img q second big whole in
-    let pages = raw_once _ img _ _ (subst (λ n. raw.Recovers n img first.stored) stored first.found) second.found in
-    let both = sym one.1 ∙ ap (λ (s : PageMap). s 1) pages ∙ two.1 in
-    let page : one.0 ≡ two.0 = cc in
-    let size : a ≡ b = omega (arith, stored, one.3, two.3, ap (λ x. be32 x 20) page) in
-    (size, recovers_once b img p q (subst (λ n. Recovers n img p) size found) also)
+    let pages = raw_once _ img _ _ (rw stored at first.found) second.found in
+    let size : a ≡ b = grind arith in
+    (size, recovers_once b img p q (rw size at found) also)
 
 -- ---- the table
-
-no_page_zero : (size : ℕ) (pages : PageMap) → IsSoundFile size pages → in_use size pages 0 ≡ None
-unfolding in_use live unlocked
-no_page_zero size pages sound = grind (arith, none_of)
 
 -- a list of one table says all of it but its root
 module _ (w : Wanted) (rest : List Wanted) (same : listed_from 0 (w ∷ rest) ≡ listed_from 0 (account ∷ [])) where
@@ -71,32 +74,27 @@ module _ (w : Wanted) (rest : List Wanted) (same : listed_from 0 (w ∷ rest) �
   unfolding all_reals
   reals = rw shape at (ap (λ f. f 0) (same_listing (w ∷ rest) (account ∷ []) same).1)
 
-  describes-same : (entry : Row) → describes w entry ≡ describes account entry
-  unfolding describes is_about
-  describes-same entry = search (arith, shape)
-
   root-same : (entries : List Row) → root_in entries w ≡ root_in entries account
+  unfolding describes is_about
   root-same [] = refl
-  root-same (entry ∷ entries) = rw (describes-same entry, root-same entries)
+  root-same (entry ∷ entries) = let is = shape in let later = root-same entries in grind arith
 
 -- the first tree is the table
 first_tree : (size : ℕ) (schema : List Wanted) (pages : PageMap) → listed_from 0 schema ≡ listed_from 0 (account ∷ [])
     → file_trees size schema pages 0 ≡ file_trees size (account ∷ []) pages 0
 unfolding all_trees trees_in roots_of
 first_tree size [] pages same = absurd cc
-first_tree size (w ∷ rest) pages same =
-    rw (root-same w rest same (rows_at size (in_use size pages) Table 1), shape w rest same, reals w rest same)
+first_tree size (w ∷ rest) pages same = rw (root-same w rest same, shape w rest same, reals w rest same)
 
 -- the table is not there in a file that lists none
 no_table : (size : ℕ) (schema : List Wanted) (pages : PageMap) → listed_from 0 schema ≡ listed_from 0 (account ∷ [])
     → IsFile size schema pages → rows_at size (in_use size pages) Table 1 ≡ [] → ⊥
-unfolding roots_of
+unfolding roots_of in_use live unlocked
 no_table size [] pages same file none = absurd cc
 no_table size (w ∷ rest) pages same file none =
     let kept = rw (shape w rest same, none) at (file.db.trees.kept 1) in
-    let live = stored_root_live kept.1.stored in
-    let page = sym ((file.db.trees.laid 1).nodes 0 live) ∙ no_page_zero size pages file.sound in
-    absurd cc
+    let page = (file.db.trees.laid 1).nodes 0 (stored_root_live kept.1.stored) in
+    let sound = file.sound in grind (arith, none_of)
 
 -- ---- from one open to the next
 
@@ -111,10 +109,8 @@ front size img q found whole some none =
     let zero = replays_once size img.log found.frames 0 found.replays none in
     let alone : pages_after size img.log img.db 0 1 ≡ Some page = rw (zero, is) at (ap (λ (p : PageMap). p 1) found.gives) in
     let head : part img.db 0 size ≡ page = search (arith, page_from_pages size img.log img.db 0 1 page alone) in
-    let long = part_within img.db 0 size (omega arith) (ap length head ∙ whole.sized 1 page is) in (
-      omega arith,
-      rw (is, ← head) (slice_index-part img.db 0 size 0 (omega arith)),
-    )
+    let long = part_within img.db 0 size (omega arith) (ap length head ∙ whole.sized 1 page is) in
+    let first = slice_index-part img.db 0 size 0 (omega arith) in grind arith
 
 -- a sound file of any size of a page begins with the S of SQLite's magic, also as pages of 4096 bytes
 magic : (size : ℕ) (img : Image) (pages : PageMap) → Recovers size img pages → 504 ≤ size → IsSoundFile size pages
@@ -122,12 +118,9 @@ magic : (size : ℕ) (img : Image) (pages : PageMap) → Recovers size img pages
 magic size img pages recs large sound q found whole =
     let ours = adopts_of size img pages recs in
     let word = reserved_word size img pages ours large sound in
-    let starts : begin ours.stored ≡ 83 =
-    ap (λ (o : Option (List ℕ)). slice_index (unwrap_or o []) 0) word.1 ∙ word.4 in
+    let starts : begin ours.stored ≡ 83 = rw word.1 word.4 in
     elim (cases_eq (stored_size size) 4096) [
-      | inl same ↦
-          let once = raw_once 4096 img q ours.stored found (subst (λ n. raw.Recovers n img ours.stored) same ours.found) in
-          ap begin once ∙ starts
+      | inl same ↦ ap begin (raw_once 4096 img q ours.stored found (rw same at ours.found)) ∙ starts
       | inr other ↦
           let none : Replays 4096 img.log 0 × Replays (stored_size size) img.log 0 =
           let own = ours.found.replays in let also = found.replays in grind arith in
@@ -135,14 +128,13 @@ magic size img pages recs large sound q found whole =
           ∙ sym (front (stored_size size) img ours.stored ours.found ours.whole (omega arith) none.1).1 ∙ starts
     ]
 
-first_length : length (sealed (first_page 4096)) ≡ 4096
-unfolding first_page
-first_length = search (arith, length-sealed, length-map, range_with_len, length-range_with_len)
-
 not_begun : (img : Image) → IsBlankFile 4096 img → (q : PageMap) → raw.Recovers 4096 img q → AreWhole 4096 q → ¬ (begin q ≡ 83)
+unfolding first_page
 not_begun img (inl none) q found whole is = omega (arith, none, found.present)
 not_begun img (inr blank) q found whole is =
-    let (long, byte) = front 4096 img q found whole (omega arith) (subst (λ n. Replays n img.log 0) first_length blank.0) in
+    let first : length (sealed (first_page 4096)) ≡ 4096 =
+    search (arith, length-sealed, length-map, range_with_len, length-range_with_len) in
+    let (long, byte) = front 4096 img q found whole (omega arith) (rw first at blank.0) in
     let db : slice_index img.db 0 ≡ 83 = sym byte ∙ is in
     let first = first_byte 4096 (omega arith) in grind arith
 
@@ -162,90 +154,67 @@ begun size schema img pages large recs file list (inr bare) =
 
 -- an open finds these rows alone, and the files begin as a database does unless these are none
 abbrev Near : List Row → Image → Type 0
-Near first img = ((rows : List Row) → FoundIn 4096 img rows → ¬ ¬ (rows ≡ first))
+Near first img = ((rows : List Row) → FoundIn 4096 img rows → rows ≡ first)
     × (¬ (first ≡ []) → (q : PageMap) → raw.Recovers 4096 img q → AreWhole 4096 q → ¬ ¬ (begin q ≡ 83))
 
-large_size : (size : ℕ) → IsPageSize (stored_size size) → 504 ≤ size
-large_size size allowed = let few : reserved size ≤ 8 = grind arith in omega (arith, allowed.0)
+same_rows : (a b : List Row) → IsProp (a ≡ b)
+same_rows = Coded-set (coded_list row.the_row.coded)
+
+Near-prop : (first : List Row) (img : Image) → IsProp (Near first img)
+Near-prop first img = hlevel same_rows
+
+near_stable : (first : List Row) (img : Image) → ¬ ¬ Near first img → Near first img
+near_stable first img h = (
+  λ rows found. rows_stable rows first (λ never. h (λ near. never (near.0 rows found))),
+  λ some q found whole never. h (λ near. near.1 some q found whole never),
+)
 
 near_rows : (img : Image) (first : List Row) → MayHave img first → Near first img
 near_rows img first (inl (size, schema, pages, allowed, recs, file, list, is)) =
-    let large = large_size size allowed in (
-      λ rows found never. elim found [
-        | inl there ↦ ∥∥₁_elim there.2 ⊥_prop (λ theirs.
+    let large : 504 ≤ size = let few : reserved size ≤ 8 = grind arith in omega (arith, allowed.0) in (
+      λ rows found. elim found [
+        | inl there ↦ ∥∥₁_elim there.2 (same_rows rows first) (λ theirs.
             let (sized, one) = once img size 4096 pages there.0 recs there.1 large (omega arith) file.sound theirs.sound in
-            let read = ap₂ (λ n p. file_trees n (account ∷ []) p 0) sized one ∙ there.3 in
-            never (sym (first_tree size schema pages list ∙ read) ∙ is))
-        | inr none ↦ ∥∥₁_elim none.0 ⊥_prop (begun size schema img pages large recs file list)
+            sym (first_tree size schema pages list ∙ ap₂ (λ n p. file_trees n (account ∷ []) p 0) sized one ∙ there.3) ∙ is)
+        | inr none ↦ absurd (∥∥₁_elim none.0 ⊥_prop (begun size schema img pages large recs file list))
       ],
       λ _ q found whole never. never (magic size img pages recs large file.sound q found whole),
     )
 near_rows img first (inr (unbegun, none)) = (
-  λ rows found never. elim found [
-    | inl there ↦ ∥∥₁_elim there.2 ⊥_prop (λ file. begun 4096 _ img there.0 (omega arith) there.1 file refl unbegun)
-    | inr also ↦ never (also.1 ∙ sym none)
+  λ rows found. elim found [
+    | inl there ↦ absurd (∥∥₁_elim there.2 ⊥_prop (λ file. begun 4096 _ img there.0 (omega arith) there.1 file refl unbegun))
+    | inr also ↦ also.1 ∙ sym none
   ],
   λ some _ _ _. absurd (some none),
 )
 
 module _ (first : List Row) (old new : Image) (near : Near first old) where
-  module _ (same : RecoversAs 4096 old new) (unread : IsUnreadable 4096 old → new ≡ old) where
-    back : (pages : PageMap) → Recovers 4096 new pages → ¬ ¬ Recovers 4096 old pages
-    back pages recs never =
-        let gone : IsUnreadable 4096 old = λ q found whole. never (carried_back old new same pages recs q found) in
-        never (subst (λ i. Recovers 4096 i pages) (unread gone) recs)
-
-    near_carried : Near first new
-    near_carried = (
-      λ rows found never. elim found [
-        | inl there ↦ back there.0 there.1 (λ was. near.0 rows (inl (there.0, was, there.2, there.3, there.4)) never)
-        | inr none ↦ ∥∥₁_elim none.0 ⊥_prop (λ unbegun. elim unbegun [
-          | inl blank ↦
-              let some : ¬ (first ≡ []) = λ is. never (none.1 ∙ sym is) in
-              let gone : IsUnreadable 4096 old = λ q was full. near.1 some q was full (not_begun new blank q (same q was) full) in
-              near.0 [] (inr (∣ inl (subst (IsBlankFile 4096) (unread gone) blank) ∣₁, refl)) (λ is. some (sym is))
-          | inr bare ↦ back bare.0 bare.1
-              (λ was. near.0 rows (inr (∣ inr (bare.0, was, bare.2, bare.3) ∣₁, none.1)) never)
-        ])
-      ],
-      λ some q found whole never.
-          let gone : IsUnreadable 4096 old = λ p was full.
-          near.1 some p was full (λ is. never (ap begin (raw_once 4096 new q p found (same p was)) ∙ is)) in
-          near.1 some q (subst (λ i. raw.Recovers 4096 i q) (unread gone) found) whole never,
-    )
-
-  near_same : (rows : List Row) → ∥ FoundIn 4096 old rows ∥₁ → ∥ MayHave new rows ∥₁ → Near first new
-  near_same rows before after =
-      let is : ¬ ¬ (rows ≡ first) = λ never. ∥∥₁_elim before ⊥_prop (λ found. near.0 rows found never) in (
-        λ more found never. ∥∥₁_elim after ⊥_prop
-            (λ may. (near_rows new rows may).0 more found (λ same. is (λ yes. never (same ∙ yes)))),
-        λ some q found whole never. ∥∥₁_elim after ⊥_prop
-            (λ may. (near_rows new rows may).1 (λ none. is (λ yes. some (sym yes ∙ none))) q found whole never),
-      )
+  -- the old files recover to these pages
+  near_read : RecoversAs 4096 old new → (q : PageMap) → raw.Recovers 4096 old q → AreWhole 4096 q → Near first new
+  near_read same q was full = (
+    λ rows found. elim found [
+      | inl there ↦ near.0 rows (inl (there.0, carried_back old new same there.0 there.1 q was, there.2, there.3, there.4))
+      | inr none ↦ ∥∥₁_elim none.0 (same_rows rows first) (λ unbegun. elim unbegun [
+        | inl blank ↦ rows_stable rows first (λ never.
+            near.1 (λ is. never (none.1 ∙ sym is)) q was full (not_begun new blank q (same q was) full))
+        | inr bare ↦ near.0 rows (inr (∣ inr (bare.0, carried_back old new same bare.0 bare.1 q was, bare.2, bare.3) ∣₁, none.1))
+      ])
+    ],
+    λ some p found whole never. near.1 some q was full (λ is. never (ap begin (raw_once 4096 new p q found (same q was)) ∙ is)),
+  )
 
   near_after : StandsFor (λ image. image ≡ old) old new → Near first new
   near_after (inl is) = subst (Near first) (sym is) near
-  near_after (inr (inl pages)) = near_carried pages.0 pages.1
-  near_after (inr (inr rows)) = near_same rows.0 rows.1 rows.2
+  near_after (inr (inl (same, unread))) = near_stable first new (λ never.
+      never (subst (Near first) (sym (unread (λ q was full. never (near_read same q was full)))) near))
+  near_after (inr (inr (rows, before, after))) = ∥∥₁_elim after (Near-prop first new) (λ may.
+      subst (λ r. Near r new) (∥∥₁_elim before (same_rows rows first) (near.0 rows)) (near_rows new rows may))
 
 near_opens : (first : List Row) (opens : List Image) (before left : Image) → IsAfterOpens opens before left
     → Near first before → Near first left
 near_opens first [] before left is near = subst (Near first) (sym is) near
 near_opens first (found ∷ older) before left (earlier, stands) near =
     near_after first found left (near_opens first older before found earlier near) stands
-
--- ---- an equation of rows that can't be false holds
-
-stable : (a b : Gv) → ¬ ¬ (a ≡ b) → a ≡ b
-stable gnil gnil h = refl
-stable (gnum m) (gnum n) h = elim (cases_eq m n) [ inl same ↦ ap gnum same | inr other ↦ absurd (h (λ e. other (ap num e))) ]
-stable (gcons a d) (gcons b c) h = ap₂ gcons (stable a b (λ never. h (λ e. never cc))) (stable d c (λ never. h (λ e. never cc)))
-stable a b h = absurd (h (λ e. cc))
-
-rows_stable : (a b : List Row) → ¬ ¬ (a ≡ b) → a ≡ b
-rows_stable a b h =
-    let c = coded_list row.the_row.coded in
-    c.inj a b (stable (c.code a) (c.code b) (λ never. h (λ e. never (ap c.code e))))
 
 -- ---- from one run to the next
 
@@ -255,31 +224,22 @@ pub next_open : {D : Type 0} {g : Ghosts D} (it : FileStore D g) → ((db : Tree
     → (found : Texts) → HoldsNames left found → ∥ ((db : Trees) × recovers it db × HoldsTable db found) ∥₁
 next_open it listed before may opens left after found holds = ∥∥₁_map (left_table it listed before may) (λ (db, can, table).
     let near = near_opens _ opens before left after (near_rows before (db 0) (inl table)) in
-    (db, can, (sym (rows_stable _ _ (near.0 _ holds.1)), listed db can)))
+    (db, can, (sym (near.0 _ holds.1), listed db can)))
 
 -- ---- one more open that failed
 
--- what an open finds is the names of the table, or none if there is no table yet
-found_rows : (img : Image) (rows : List Row) → FoundIn 4096 img rows → ∥ MayHave img rows ∥₁
-found_rows img rows (inl (pages, recs, file, is, one)) = ∥∥₁_map file (λ file.
-    inl (4096, account ∷ [], pages, (omega arith, omega arith, refl, refl), recs, file, refl, is))
-found_rows img rows (inr (none, is)) = ∥∥₁_map none (λ unbegun. inr (unbegun, is))
-
--- an open finds no other rows in the same files
-pub found_once : (img : Image) (a b : List Row) → FoundIn 4096 img a → FoundIn 4096 img b → b ≡ a
-found_once img a b one other = rows_stable b a (λ never. ∥∥₁_elim (found_rows img a one) ⊥_prop
-    (λ may. (near_rows img a may).0 b other never))
-
-names_stay : (opens : List Image) (before left : Image) → IsAfterOpens opens before left → (names found : Texts)
-    → HoldsNames before names → HoldsNames left found → found ≡ names
-names_stay opens before left after names found held holds = rows_of-once found names
-    (rows_stable _ _ (λ never. ∥∥₁_elim (found_rows before _ held.1) ⊥_prop
-    (λ may. (near_opens _ opens before left after (near_rows before (rows_of names) may)).0 _ holds.1 never)))
+-- what an open finds is the names of the table, or none if there is no table yet, and it finds no other rows in the same files
+pub near_found : (img : Image) (rows : List Row) → FoundIn 4096 img rows → Near rows img
+near_found img rows (inl (pages, recs, file, is, one)) = ∥∥₁_elim file (Near-prop rows img) (λ file.
+    near_rows img rows (inl (4096, account ∷ [], pages, (omega arith, omega arith, refl, refl), recs, file, refl, is)))
+near_found img rows (inr (none, is)) = ∥∥₁_elim none (Near-prop rows img) (λ unbegun. near_rows img rows (inr (unbegun, is)))
 
 pub leaves_names : {D : Type 0} (g : Ghosts D) (old new : D × D) → LeavesNames g old new
 leaves_names g old new synced unharmed clean left may opens before after =
     let found = seen_image g old.0 old.1 in
-    let stands = stands_for (outcomes g old.0 old.1) (λ img. img ≡ found) found found left (λ img was.
-    ap₂ (λ (a b : List ℕ). record { log = a; db = b }) (synced.0 img.log was.0) (synced.1 img.db was.1)) refl
-    (unharmed clean left may) in
-    ((after, stands), names_stay (found ∷ opens) before left (after, stands))
+    let stands = stands_for (outcomes g old.0 old.1) (λ img. img ≡ found) found left (λ img was.
+    ap₂ (λ (a b : List ℕ). record { log = a; db = b }) (synced.0 img.log was.0) (synced.1 img.db was.1)) (unharmed clean left may) in (
+      (after, stands),
+      λ names other held holds. rows_of-once other names
+          ((near_opens _ (found ∷ opens) before left (after, stands) (near_found before _ held.1)).0 _ holds.1),
+    )

@@ -1,23 +1,21 @@
 -- A store that is ready, and what an open that fails leaves.
 use Rattle.argon2_store.proofs.Imports.{◌≡◌, ℕ, Bool, List, [], ◌∷◌, inl, inr, refl, sym, ap, subst, subst₂, ◌∙◌, arith, IsTrue, ◌↔◌, ∥∥₁_elim, ∥∥₁_map, Row}
-use Rattle.argon2_store.proofs.Imports.{outcomes, seen_image, AreWhole, Image, PageMap, IsSoundFile, in_use, IsBlankFile, IsUnreadable, Recovers, RecoversAs}
-use Rattle.argon2_store.proofs.Imports.{RecoversAs-from, readable, trimmed_whole, clean_if_left, clean_is, size_is_allowed, clean_of, no_doubt, catalog_tree, Trees}
-use Rattle.argon2_store.proofs.Imports.{IsClean, rows_at, not_broken, settled_at, both_clean, SeenMayStay, files, reading, schema_in, schema_of, state, view}
-use Rattle.argon2_store.proofs.Imports.{catalog_rows, listed_from, files_of, image, state_of, wanted_by, FileStore, AreUnharmed, FoundIn}
-use Rattle.argon2_store.proofs.Imports.{IsTableOf, IsUnstarted, MayHave, StandsFor, account, IsUnwritten, recovers}
+use Rattle.argon2_store.proofs.Imports.{outcomes, seen_image, Image, IsBlankFile, RecoversAs-from, readable, trimmed_whole, clean_if_left, clean_is, size_is_allowed}
+use Rattle.argon2_store.proofs.Imports.{clean_of, no_doubt, catalog_tree, Trees, IsClean, not_broken, settled_at, SeenMayStay, files, reading, schema_in, schema_of}
+use Rattle.argon2_store.proofs.Imports.{state, view, catalog_rows, files_of, image, state_of, wanted_by, FileStore, AreUnharmed, FoundIn, IsTableOf, IsUnstarted}
+use Rattle.argon2_store.proofs.Imports.{MayHave, StandsFor, account, IsUnwritten, recovers, AreClean, OnlyReads, IsOfDatabase, IsDamaged, IsOfDamage, IsOfPair}
+use Rattle.sqlite_pool.specs.File.{IsSoundFile}
 use Rattle.sqlite_disk.specs.declared.Disk.{Ghosts}
-use Rattle.sqlite_wal.specs.Reads.{AreClean, OnlyReads}
 use Rattle.sqlite_pool.specs.Pool.{files as pool_files, state as pool_state}
-use Rattle.sqlite_trees.specs.declared.store.Shape.TheVariants.{Table}
 use Rattle.sqlite_store.proofs.BuildLemmas.{new_is_empty}
 use Rattle.sqlite_store.specs.Calls.{IsQuietCall}
 use Rattle.sqlite_pool.specs.declared.pool.Pool.{Pool}
 use Rattle.sqlite_store.specs.FileStore.{IsReady}
-use Rattle.sqlite_store.specs.Listing.{all_shapes, all_trees}
+use Rattle.sqlite_store.specs.Listing.{all_shapes, all_trees, listed_from}
 use Rattle.sqlite_store.specs.declared.store.open.Unopened.{Unopened}
 use Rattle.argon2_rows.specs.Table.{catalog}
-use Rattle.sqlite_pool.specs.File.{in_use}
 use Rattle.sqlite_store.specs.Unopened as below
+use Rattle.argon2_store.specs.declared.error.OpenError.{OpenError}
 
 -- ---- a store that is ready
 
@@ -28,56 +26,41 @@ fresh it ready is clean = search (arith, clean_of, catalog_rows)
 
 -- ---- an open that fails
 
--- what stands for two files stands for those that they were before they were read
-pub stands_for : (was first : Image → Type 0) (i j left : Image) → ((l : Image) → was l → first l) → i ≡ j → StandsFor was i left
-    → StandsFor first j left
-stands_for was first i j left within same (inl may) = inl (within left may)
-stands_for was first i j left within same (inr (inl pages)) =
-    subst (λ k. StandsFor first k left) same (inr (inl (pages.0, λ none. within left (pages.1 none))))
-stands_for was first i j left within same (inr (inr rows)) = subst (λ k. StandsFor first k left) same (inr (inr rows))
+-- what stands for two files, if more images do
+pub stands_for : (was first : Image → Type 0) (i left : Image) → ((l : Image) → was l → first l) → StandsFor was i left
+    → StandsFor first i left
+stands_for was first i left within stands = grind arith
 
 -- the log was read before
-pub seen_same : {D : Type 0} {g : Ghosts D} (old mid db : D) → OnlyReads g old mid → seen_image g mid db ≡ seen_image g old db
-seen_same {D} {g} old mid db reads = ap (λ (log : List ℕ). record { log = log; db = g.seen db }) reads.seen
+pub seen_same : {D : Type 0} {g : Ghosts D} {old mid : D} (db : D) → OnlyReads g old mid
+    → seen_image g mid db ≡ seen_image g old db
+seen_same db reads = search arith
 
-pub unharmed_then : {D : Type 0} {g : Ghosts D} (old mid db : D) (new : D × D) → OnlyReads g old mid → AreUnharmed g (mid, db) new
-    → AreUnharmed g (old, db) new
-unharmed_then {D} {g} old mid db new reads unharmed clean left may =
-    stands_for (outcomes g mid db) (outcomes g old db) (seen_image g mid db) (seen_image g old db) left
-    (λ l out. (reads.crash l.log out.0, out.1)) (seen_same old mid db reads) (unharmed clean left may)
+pub unharmed_then : {D : Type 0} {g : Ghosts D} {old mid : D} (db : D) (new : D × D) → OnlyReads g old mid
+    → AreUnharmed g (mid, db) new → AreUnharmed g (old, db) new
+unharmed_then {g = g} {old} {mid} db new reads unharmed clean left may =
+    subst (λ i. StandsFor (outcomes g old db) i left) (seen_same db reads) (stands_for (outcomes g mid db) (outcomes g old db) _ left
+    (λ l out. (reads.crash l.log out.0, out.1)) (unharmed clean left may))
 
 module _ {D : Type 0} {g : Ghosts D} (old : Unopened D g) (sized : (state_of old).page_size ≡ 4096) (left : Image) where
-  abbrev pub Stays : Type 0
-  Stays = StandsFor (state_of old).may_leave (image old) left
-
-  pub as_before : below.IsAsBefore old left → Stays
-  as_before is = elim is.same [
-    | inl was ↦ inl was
-    | inr same ↦ inr (inl (
-      subst (λ n. RecoversAs n (image old) left) sized same,
-      λ none. is.unread (subst (λ n. IsUnreadable n (image old)) (sym sized) none),
-    ))
-  ]
+  pub as_before : below.IsAsBefore old left → StandsFor (state_of old).may_leave (image old) left
+  as_before is = elim (rw sized at is.same) [ inl was ↦ inl was | inr same ↦ inr (inl (same, rw sized at is.unread)) ]
 
   table_there : wanted_by old ≡ account ∷ [] → below.IsOnTheWay old left → ∥ MayHave left [] ∥₁
   unfolding all_trees
-  table_there wants (inl blank) = ∣ inr (inl (subst (λ n. IsBlankFile n left) sized blank), refl) ∣₁
+  table_there wants (inl blank) = ∣ inr (inl (rw sized at blank), refl) ∣₁
   table_there wants (inr (pages, recs, inl new)) =
-      let size = (state_of old).page_size in
-      let whole = subst (AreWhole size) recs.shows (trimmed_whole size recs.stored recs.whole) in
-      ∣ inr (
-        inr (subst (λ n. (ps : PageMap) × Recovers n left ps × IsSoundFile n ps × (rows_at n (in_use n ps) Table 1 ≡ [])) sized
-            (pages, recs, new.sound, (new_is_empty size pages whole new).1)),
-        refl,
-      ) ∣₁
-  table_there wants (inr (pages, recs, inr fresh)) = ∥∥₁_elim (size_is_allowed old.pool) squash₁ (λ allowed.
-      ∥∥₁_map fresh (λ ours.
-      inl ((state_of old).page_size, wanted_by old, pages, allowed, recs, ours.0.file, ap (listed_from 0) wants, ours.1 0)))
+      let empty = new_is_empty _ pages (rw recs.shows at (trimmed_whole _ recs.stored recs.whole)) new in
+      ∣ inr (inr (pages, rw sized at recs, rw sized at new.sound, rw sized at empty.1), refl) ∣₁
+  table_there wants (inr (pages, recs, inr fresh)) =
+      ∥∥₁_elim (size_is_allowed old.pool) squash₁ (λ allowed. ∥∥₁_map fresh (λ ours.
+      inl (_, wanted_by old, pages, allowed, recs, ours.0.file, ap (listed_from 0) wants, ours.1 0)))
 
 -- if there was no table, an open may have begun one
 pub made : {D : Type 0} {g : Ghosts D} (old mid : Unopened D g) (sized : (state_of old).page_size ≡ 4096)
     → (state_of mid).page_size ≡ (state_of old).page_size → (left : Image) → wanted_by mid ≡ account ∷ []
-    → ∥ IsUnstarted (state_of old).page_size (image old) ∥₁ → below.IsOnTheWay mid left → Stays old sized left
+    → ∥ IsUnstarted (state_of old).page_size (image old) ∥₁ → below.IsOnTheWay mid left
+    → StandsFor (state_of old).may_leave (image old) left
 made old mid sized same left wants none way =
     inr (inr ([], ∣ inr ((rw sized at none), refl) ∣₁, table_there mid (same ∙ sized) left wants way))
 
@@ -90,9 +73,9 @@ module _ {D : Type 0} {g : Ghosts D} (old mid : Unopened D g) (rows : List Row) 
 
   pub after : below.Opens old (state_of mid) → (left : Image) → below.IsAsBefore mid left → below.IsAsBefore old left
   after opens left is = record {
-    same = elim is.same [
+    same = elim (rw sized at is.same) [
       | inl may ↦ (opens.crash left may).same
-      | inr same ↦ inr (λ pages was. (rw sized at same) pages
+      | inr same ↦ inr (λ pages was. same pages
           (RecoversAs-from _ (image old) (image mid) listed.pages listed.found listed.again pages was))
     ];
     unread = λ none. absurd (readable _ (image old) listed.pages listed.found none);
@@ -101,19 +84,14 @@ module _ {D : Type 0} {g : Ghosts D} (old mid : Unopened D g) (rows : List Row) 
 module _ {D : Type 0} {g : Ghosts D} where
   module _ (it : Pool D g) (files : D × D) (same : pool_files it ≡ files) where
     is_clean : IsTrue (pool_state it).is_clean → AreClean g files.0 files.1
-    is_clean clean = subst (λ (p : D × D). AreClean g p.0 p.1) same (subst IsTrue (clean_is it) clean)
+    is_clean clean = rw (clean_is it, same) at clean
 
     pub is_honest : AreClean g files.0 files.1 → IsTrue (pool_state it).is_clean
-    is_honest clean =
-        subst IsTrue (sym (clean_is it)) (subst (λ (p : D × D). AreClean g p.0 p.1) (sym same) clean)
+    is_honest clean = rw (clean_is it, same) clean
 
     may_leave : AreClean g files.0 files.1 → (left : Image) → outcomes g files.0 files.1 left → (pool_state it).may_leave left
     unfolding pool_state pool_files
     may_leave clean left may = search arith
-
-    leaves : (left : Image) → (pool_state it).may_leave left → outcomes g files.0 files.1 left
-    unfolding pool_state pool_files
-    leaves left may = subst (λ (p : D × D). outcomes g p.0 p.1 left) same may.1
 
   module _ {log db mid_log mid_db : D} (reads : OnlyReads g log mid_log) (also : OnlyReads g db mid_db) (it : Unopened D g)
       (same : files_of it ≡ (mid_log, mid_db)) where
@@ -121,8 +99,7 @@ module _ {D : Type 0} {g : Ghosts D} where
     image_is = search arith
 
     pub was_clean : IsTrue (state_of it).is_clean → AreClean g log db
-    was_clean clean = both_clean (g.is_clean log) (g.is_clean db) (g.is_clean mid_log) (g.is_clean mid_db) reads.clean
-        also.clean (is_clean it.pool (mid_log, mid_db) same clean)
+    was_clean clean = let was = is_clean it.pool (mid_log, mid_db) same clean in grind arith
 
     -- what was probed says so of the files as they were
     pub probed : (b : Bool) (size : ℕ) → (state_of it).page_size ≡ size
@@ -134,11 +111,12 @@ module _ {D : Type 0} {g : Ghosts D} where
         → ((state_of it).page_size ≡ 4096 → IsTrue (state_of end).is_clean → (left : Image) → (state_of end).may_leave left
         → StandsFor (state_of it).may_leave (image it) left)
         → AreUnharmed g (log, db) new
+    unfolding pool_state pool_files
     unharmed sized end new closed stands clean left may =
-        let within : (l : Image) → (state_of it).may_leave l → outcomes g log db l = λ l m.
-        let out = leaves it.pool (mid_log, mid_db) same l m in (reads.crash l.log out.0, also.crash l.db out.1) in
+        let within : (l : Image) → (state_of it).may_leave l → outcomes g log db l = search arith in
         let left_so = may_leave end.pool new (sym closed) clean left may in
-        stands_for _ _ _ _ left within image_is (stands sized (clean_if_left end.pool left left_so) left left_so)
+        subst (λ i. StandsFor (outcomes g log db) i left) image_is
+        (stands_for _ _ _ left within (stands sized (clean_if_left end.pool left left_so) left left_so))
 
 -- Whatever a crash leaves of a store that lists the table alone is a table with the rows that it recovers to.
 pub left_table : {D : Type 0} {g : Ghosts D} (it : FileStore D g) → ((db : Trees) → recovers it db → db catalog_tree ≡ catalog)
@@ -146,13 +124,11 @@ pub left_table : {D : Type 0} {g : Ghosts D} (it : FileStore D g) → ((db : Tre
 unfolding catalog
 left_table it listed left may = ∥∥₁_elim it.safe squash₁ (λ all.
     let (pages, recs, ours) = all left may in
-    let size = (state it).page_size in
     let db = reading it pages in
     let can : recovers it db = (left, pages, may, ∣ recs ∣₁, refl) in
-    let list : listed_from 0 (schema_in it pages) ≡ listed_from 0 (account ∷ []) =
-    sym (catalog_rows size (schema_in it pages) _) ∙ listed db can in
+    let list = sym (catalog_rows (state it).page_size (schema_in it pages) _) ∙ listed db can in
     ∥∥₁_elim (size_is_allowed it.pool) squash₁ (λ allowed. ∥∥₁_map ours (λ ours.
-    (db, can, (size, schema_in it pages, pages, allowed, recs, ours.file, list, refl)))))
+    (db, can, (_, schema_in it pages, pages, allowed, recs, ours.file, list, refl)))))
 
 -- The rows were read, or not all of them: whatever a crash leaves has those that the open found.
 pub unharmed_by_reads : {D : Type 0} {g : Ghosts D} (old : D × D) (it end : FileStore D g) (new : D × D) → SeenMayStay g
@@ -173,3 +149,8 @@ unharmed_by_reads old it end new stay quiet fresh found closed clean left may =
       ∥∥₁_map (left_table end listed left may_so)
           (λ (db, can, table). inl (subst (λ (t : Trees). IsTableOf left (t 0)) (same db can) table)),
     ))
+
+-- an error of the database says nothing of the names
+pub of_database : {D : Type 0} {g : Ghosts D} {old new : D × D} {e : OpenError} → IsOfDatabase e
+    → (AreClean g new.0 new.1 → IsDamaged (g.seen old.0) → IsOfDamage g old.0 new.0 e) → AreUnharmed g old new → IsOfPair g old new e
+of_database of damage unharmed = grind arith

@@ -1,33 +1,27 @@
 -- What calls make of a file, and what an open finds after them.
-use Rattle.argon2_store.proofs.Imports.{arith, ◌≡◌, ◌⊎◌, ℕ, cond, List, [], ◌∷◌, ◌++◌, false, Result, Ok, Err, inl, inr, refl, sym, subst, ◌∙◌, ap, append_assoc, cases_Bool, empty, get}
-use Rattle.argon2_store.proofs.Imports.{∥∥₁_elim, ∥∥₁_map, flat_map, Option, Some, None, SeenMayStay, settled_at, FileStore, Trees, Ghosts, bytes_eq, bytes_eq-Decides}
-use Rattle.argon2_store.proofs.Imports.{Answers, IsErrAnd, Texts, IsClosed, database_of, Edit, changed, gives, left_by, names_after, name_of, refusal, is_refusal}
-use Rattle.argon2_store.proofs.Imports.{AreEventsOf, AreMade, Did, Does, EndsRun, FileEvent, FileCall, IsFoundAfter, IsLate, IsLateOf, IsShutOut, FileRun, events_of, makes, text_by}
-use Rattle.argon2_store.proofs.Imports.{over_file, reads, IsHonest, IsOpen, CrashLeaves, AccountFile, FileError, Closed}
-use Rattle.argon2_store.specs.AccountFile.{HasNames, IsReady}
-use Rattle.argon2_rows.proofs.TableLemmas.{Settled}
+use Rattle.argon2_store.proofs.Imports.{arith, ◌≡◌, ◌⊎◌, ℕ, List, [], ◌∷◌, ◌++◌, false, Result, Ok, Err, inl, inr, refl, sym, subst, ◌∙◌, ap, append_assoc}
+use Rattle.argon2_store.proofs.Imports.{cases_Bool, empty, get, ∥∥₁_elim, ∥∥₁_map, flat_map, SeenMayStay, settled_at, FileStore, Trees, Ghosts, bytes_eq-Decides}
+use Rattle.argon2_store.proofs.Imports.{Answers, IsErrAnd, Texts, IsClosed, database_of, Edit, changed, gives, left_by, names_after, name_of, is_refusal}
+use Rattle.argon2_store.proofs.Imports.{AreEventsOf, AreMade, Did, Does, EndsRun, FileEvent, FileCall, IsFoundAfter, IsLate, IsLateOf, IsShutOut, FileRun, events_of}
+use Rattle.argon2_store.proofs.Imports.{makes, text_by, over_file, reads, IsHonest, IsOpen, CrashLeaves, AccountFile, FileError, HasNames, IsReady, Settled}
+use Rattle.argon2_store.proofs.Imports.{IsTableOf, get-at, rows_of-once, get-empty}
 use Rattle.argon2_store.proofs.NextOpenLemmas.{next_open}
 use Rattle.argon2_store.proofs.OpenLemmas.{left_table}
-use Rattle.argon2_store.specs.Opening.{IsTableOf}
-use Rattle.argon2_rows.proofs.RowLemmas.{get-at, rows_of-once}
 use Rattle.sqlite_disk.specs.declared.Disk as disk
-use Rattle.std.specs.Cmp.Lexicographic.{slice_cmp}
-use Rattle.std.specs.FinMap.{get-empty}
-use Rattle.std.specs.Ordering.{nat_cmp}
 
 -- ---- events
 
 run_then : (first mid last : Texts) (newer older : List FileEvent) → AreMade first older mid → AreMade mid newer last
     → AreMade first (newer ++ older) last
-run_then first mid last [] older earlier later = subst (AreMade first older) (sym later) earlier
-run_then first mid last (event ∷ newer) older earlier later =
-    (later.0, run_then first mid later.0 newer older earlier later.1, later.2)
+run_then first mid last [] older earlier later = rw later earlier
+run_then first mid last (event ∷ newer) older earlier later = (later.0, run_then _ mid later.0 newer _ earlier later.1, later.2)
 
--- the text of a name after an edit
-text_after : (names : Texts) (edit : Edit) (name : List ℕ)
-    → get (changed names (name_of edit) (gives edit (get names (name_of edit)))) name
-    ≡ cond (bytes_eq name (name_of edit)) (gives edit (get names name)) (get names name)
-text_after names edit name =
+-- the text of a name after one more edit
+text_then : (edit : Edit) (edits : List Edit) (names after : Texts) (name : List ℕ)
+    → ((mid : Texts) → names_after edits mid ≡ Ok after → get after name ≡ left_by name edits (get mid name))
+    → names_after (edit ∷ edits) names ≡ Ok after → get after name ≡ left_by name (edit ∷ edits) (get names name)
+text_then edit edits names after name later is =
+    let rest = later (changed names (name_of edit) (gives edit (get names (name_of edit)))) in
     let at = get-at names (name_of edit) name (gives edit (get names (name_of edit))) in
     let test = bytes_eq-Decides name (name_of edit) in grind arith
 
@@ -35,18 +29,12 @@ texts_after : (edits : List Edit) (names after : Texts) → names_after edits na
     → get after name ≡ left_by name edits (get names name)
 texts_after [] names after is name = cc
 texts_after (edit ∷ edits) names after is name =
-    go (refusal edit (get names (name_of edit))) refl (λ mid all. texts_after edits mid after all name)
-  where
-    go : (o : Option FileError) → refusal edit (get names (name_of edit)) ≡ o
-        → ((mid : Texts) → names_after edits mid ≡ Ok after → get after name ≡ left_by name edits (get mid name))
-        → get after name ≡ left_by name (edit ∷ edits) (get names name)
-    go None none later = later _ (rw none at is) ∙ ap (left_by name edits) (text_after names edit name)
-    go (Some e) some later = let never = rw some at is in absurd cc
+    text_then edit edits names after name (λ mid all. texts_after edits mid after all name) is
 
 -- the text of each name is what its edits left
 pub texts_of_events : (events : List FileEvent) (names : Texts) → AreMade empty events names → (name : List ℕ)
     → get names name ≡ text_by name events
-texts_of_events [] names is name = rw (is, get-empty (slice_cmp nat_cmp) name) refl
+texts_of_events [] names is name = rw (is, get-empty)
 texts_of_events ((edits, Ok x) ∷ older) names (before, earlier, step) name =
     texts_after edits before names step name ∙ ap (left_by name edits) (texts_of_events older before earlier name)
 texts_of_events ((edits, Err e) ∷ older) names (before, earlier, step) name =
@@ -65,14 +53,8 @@ its_late : (before after left : Texts) (edits : List Edit) (result : Result (Uni
     → Answers before edits result after
     → (left ≡ after) ⊎ (IsErrAnd result (λ e. is_refusal e ≡ false) × (names_after edits before ≡ Ok left))
     → (left ≡ after) ⊎ ((late : List FileEvent) × IsLateOf (makes edits result) late × AreMade after late left)
-its_late before after left edits result answers (inl is) = inl is
-its_late before after left edits (Ok x) answers (inr never) = absurd never.0
-its_late before after left edits (Err e) answers (inr (of_file, is)) =
-    inr ((edits, Ok tt) ∷ [], (of_file, refl), (after, refl, ap (names_after edits) answers.1 ∙ is))
-
-no_event : (edits : List Edit) (result : Result (Unit {0}) FileError) → result ≡ Err Closed → events_of (makes edits result) ≡ []
-no_event edits (Ok x) shut = absurd cc
-no_event edits (Err e) shut = let is : e ≡ Closed = cc in rw is refl
+its_late before after left edits result answers is =
+    elim is [ inl same ↦ inl same | inr late ↦ inr ((edits, Ok tt) ∷ [], grind arith, (after, refl, grind arith)) ]
 
 module _ {S : Type 0} {g : Ghosts S} (settled : Settled g) (first : Texts) where
   -- what these events made of the first names, and what a crash leaves: that, or some that come late too
@@ -109,21 +91,15 @@ module _ {S : Type 0} {g : Ghosts S} (settled : Settled g) (first : Texts) where
           has = has;
           run = run;
           left = λ clean db found. elim (cases_Bool (g.view (database_of old)).is_open) [
-            | inl is_open ↦
-                let (names, held, left) = crash clean is_open db found in (
-                  names,
-                  held,
-                  elim left [
-                    | inl is ↦ ([], inl refl, subst (AreMade first (newer ++ events)) (sym is) (run clean))
-                    | inr more ↦ (
-                      more.0,
-                      inr (inl more.1),
-                      run_then first after names more.0 (newer ++ events) (run clean) more.2,
-                    )
-                  ],
-                )
-            | inr is_closed ↦
-                let (shut, none, was) = closed clean is_closed in
+            | inl is_open ↦ let (names, held, left) = crash clean is_open db found in (
+              names,
+              held,
+              elim left [
+                | inl is ↦ ([], inl refl, rw is (run clean))
+                | inr more ↦ (more.0, inr (inl more.1), run_then _ after _ more.0 _ (run clean) more.2)
+              ],
+            )
+            | inr is_closed ↦ let (shut, none, was) = closed clean is_closed in
                 let (names, held, more) = before.left (honest clean) db (was db found) in
                 (names, held, (more.0, inr (inr (shut, more.1)), rw none more.2))
           ];
@@ -135,16 +111,14 @@ module _ {S : Type 0} {g : Ghosts S} (settled : Settled g) (first : Texts) where
         let (after, does) = serve before.names before.has in
         reaches (IsLateOf (makes edits result)) _ _ after does.has does.honest
         (λ clean. its_events before.names after edits result (does.answers clean))
-        (λ clean is_open db found. let (names, held, left) = does.crash clean is_open db found in
-        (names, held, its_late before.names after names edits result (does.answers clean) left))
-        (λ clean is_closed. let (shut, same) = does.closed (does.honest clean) is_closed in
-        (shut, no_event edits result shut, λ db found. rw same at found))
+        (λ clean is_open db found. let left = does.crash clean is_open db found in
+        (left.0, left.1, its_late before.names after _ edits result (does.answers clean) left.2))
+        (λ clean is_closed. let (shut, same) = does.closed (does.honest clean) is_closed in search arith)
     one_more (reads error) stay =
         let does = stay before.names before.has in
-        let honest : IsHonest g (database_of new) → IsHonest g (database_of old) = search arith in
-        reaches (λ late. ⊥) _ [] before.names does.has honest (λ clean. refl)
-        (λ clean is_open db found. let (names, has, is) = does.left clean is_open db found in (names, has, inl is))
-        (λ clean is_closed. ((does.closed (honest clean) is_closed).0, refl, does.quiet.outcomes))
+        reaches (λ late. ⊥) _ [] before.names does.has (search arith) (λ clean. refl)
+        (λ clean is_open db found. let left = does.left clean is_open db found in (left.0, left.1, inl left.2))
+        (λ clean is_closed. let shut = does.closed in search arith)
 
   pub reached : (begun : AccountFile S g) → IsReady first begun → (calls : List FileCall) (last : AccountFile S g)
       → Did calls begun last → Reached (flat_map events_of calls) (IsLate calls) last
@@ -160,14 +134,12 @@ module _ {S : Type 0} {g : Ghosts S} (settled : Settled g) (first : Texts) where
 
 pub ends_run : {D : Type 0} (g : disk.Ghosts D) → SeenMayStay g → (last : AccountFile (FileStore D g) over_file) → EndsRun last
 ends_run {D} g stay last names first calls before ready did clean may =
-    let settled = λ (it : FileStore D g) (db : Trees). settled_at it stay db in
-    let leaves = (reached {S = FileStore D g} {g = over_file} settled names first ready calls last did).left clean in
+    let leaves = (reached {S = FileStore D g} {g = over_file} (λ it. settled_at it stay) names first ready calls last did).left clean in
     let listed = λ (db : Trees) (found : over_file.recovers (database_of last) db). (leaves db found).1.1 in (
       λ opens left after next holds.
           ∥∥₁_map (next_open {g = g} (database_of last) listed before may opens left after next holds) (λ found.
           let (left_names, held, late) = leaves found.0 found.1 in
-          let same = rows_of-once left_names next (sym held.0 ∙ found.2.0) in
-          (late.0, late.1, subst (AreMade names (late.0 ++ flat_map events_of calls)) same late.2)),
+          (late.0, late.1, rw (rows_of-once left_names next (sym held.0 ∙ found.2.0)) at late.2)),
       ∥∥₁_map (left_table {g = g} (database_of last) listed before may) (λ (db, can, table).
           let (left_names, held, late) = leaves db can in (left_names, subst (IsTableOf before) held.0 table, late)),
     )
@@ -178,9 +150,5 @@ runs_join first [] names is = ∣ ([], refl, is) ∣₁
 runs_join first (run ∷ older) names (earlier, leaves, (opens, left, after, holds)) =
     ∥∥₁_elim (runs_join first older run.found earlier) squash₁ (λ before.
     ∥∥₁_map (leaves opens left after names holds) (λ now.
-    let own = flat_map events_of run.calls in (
-      now.0 ++ (own ++ before.0),
-      (now.0, before.0, now.1, before.1, refl),
-      subst (λ events. AreMade first events names) (append_assoc now.0 own before.0)
-          (run_then first run.found names (now.0 ++ own) before.0 before.2 now.2),
-    )))
+    let made = run_then first run.found names (now.0 ++ flat_map events_of run.calls) before.0 before.2 now.2 in
+    (_, (now.0, before.0, now.1, before.1, refl), rw append_assoc at made)))

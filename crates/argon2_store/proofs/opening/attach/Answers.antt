@@ -1,16 +1,9 @@
-use Rattle.argon2_store.proofs.Imports.{arith, rules, ℕ, [], ◌∷◌, ap, inl, inr, ◌≡◌, sym, length, subst, subst₂, ◌∙◌, IsTrue, ∥∥₁_map, Recovers, recovers_once}
-use Rattle.argon2_store.proofs.Imports.{clean_of, IsFile, FileStore, schema_of, state, view, file_trees, kept_schema, state_of, image, account, Image, IsUnstarted, nil_from_length, refl, wanted_by}
-use Rattle.sqlite_disk.specs.declared.Disk.{Ghosts}
-use Rattle.argon2_store.specs.Opening.{ListsOne}
+use Rattle.argon2_store.proofs.Imports.{arith, rules, [], ◌∷◌, ap, inl, inr, ◌≡◌, sym, length, subst, ◌∙◌, IsTrue, ∥∥₁_map, Recovers, recovers_once, clean_of}
+use Rattle.argon2_store.proofs.Imports.{schema_of, state, kept_schema, state_of, image, account, Image, IsUnstarted, nil_from_length, refl, wanted_by, ListsOne}
 use Rattle.sqlite_store.specs.Unopened as below
 use Rattle.argon2_store.proofs.OpenLemmas.{after, as_before, bare, fresh, made}
 use Rattle.argon2_store.proofs.opening.attach.Goals as goal
 use Rattle.argon2_store.proofs.opening.attach.Goals.{After-create, then-not-is_new+in-Ok+else-len-gt-LISTED+else-len-eq-LISTED, else-not-is_new}
-
-committed_as : {D : Type 0} {g : Ghosts D} (it : FileStore D g) (size : ℕ)
-    → IsTrue (state it).is_clean → (state it).page_size ≡ size → kept_schema it.saved (schema_of it) ≡ account ∷ []
-    → file_trees size (account ∷ []) (state it).committed 0 ≡ (view it).committed 0
-committed_as it size clean sized same = grind arith
 
 -- the files list nothing, or there is no database yet
 looked : (g : _) (c : After-create g) → (wanted_by c.if-not-is_new.files ≡ account ∷ [])
@@ -24,54 +17,44 @@ looked g c = elim c.if-not-is_new.branch [
     λ clean.
         let kept = w.read_catalog.ensures.kept clean in
         let listed = w.in-Ok.ensures.ok clean in
-        let none : w.in-Ok.rows.items ≡ [] = nil_from_length w.in-Ok.rows.items (search rules) in (
-          kept.size,
-          bare c.args.files w.read_catalog.new.self _ listed kept.size none,
-          after c.args.files w.read_catalog.new.self _ listed kept.size kept,
-        ),
+        (kept.size, bare _ _ _ listed kept.size (nil_from_length w.in-Ok.rows.items (search rules)), after _ _ _ listed kept.size kept),
   )
   | else-not-is_new w ↦ rw (w.files-is) (
     c.requires.schema,
-    λ clean.
-        (refl, ∣ inl (c.requires.blank (search rules) clean) ∣₁, λ left is. is),
+    λ clean. (refl, ∣ inl (c.requires.blank (search rules) clean) ∣₁, λ left is. is),
   )
 ]
 
 pub returns-in-Err-clause-left : goal.returns-in-Err-clause-left
-returns-in-Err-clause-left g c sized clean left may =
-    as_before c.args.files sized left ((c.read_catalog.ensures.kept clean).crash left may)
+returns-in-Err-clause-left g c sized clean left may = as_before _ sized left ((c.read_catalog.ensures.kept clean).crash left may)
 
 pub returns-then-len-gt-LISTED-clause-left : goal.returns-then-len-gt-LISTED-clause-left
 returns-then-len-gt-LISTED-clause-left g c sized clean left may =
-    as_before c.args.files sized left ((c.read_catalog.ensures.kept clean).crash left may)
+    as_before _ sized left ((c.read_catalog.ensures.kept clean).crash left may)
 
 pub returns-in-Err-open-clause-left : goal.returns-in-Err-open-clause-left
 returns-in-Err-open-clause-left g c sized clean left may =
     let was = c.in-Err-open.ensures.falls clean in
     let kept = c.read_catalog.ensures.kept was in
-    as_before c.args.files sized left (after c.args.files c.read_catalog.new.self _ (c.in-Ok.ensures.ok was) kept.size kept left
+    as_before _ sized left (after _ _ _ (c.in-Ok.ensures.ok was) kept.size kept left
     ((c.in-Err-open.ensures.unharmed clean).crash left may))
 
 pub returns-in-Ok-open-clause-found : goal.returns-in-Ok-open-clause-found
 returns-in-Ok-open-clause-found g c clean =
     let now = clean_of _ clean in
     let store = c.in-Ok-open.store in
-    let ready = c.in-Ok-open.ensures.ready in
     let was = c.in-Ok-open.ensures.honest now in
     let size = (c.read_catalog.ensures.kept was).size in
     let sized = (c.in-Ok-open.ensures.kept now).size ∙ size in
     let schema : kept_schema store.saved (schema_of store) ≡ account ∷ [] = search arith in
     let listed = c.in-Ok.ensures.ok was in
-    let once = recovers_once _ _ _ _ listed.again
-    (subst (λ n. Recovers n (image c.read_catalog.new.self) (state store).committed) size (c.in-Ok-open.ensures.found now)) in
-    let one : length c.in-Ok.rows.items ≡ 1 = search rules in
+    let once = recovers_once _ _ _ _ listed.again (rw size at (c.in-Ok-open.ensures.found now)) in
     inl (
       (state store).committed,
       subst (Recovers _ _) once listed.found,
-      ∥∥₁_map (store.stored (ready.is_open clean))
-          (λ stored. subst₂ (λ n s. IsFile n s (state store).committed) sized schema stored.ours.file),
-      committed_as store (state_of c.args.files).page_size now sized schema,
-      subst (ListsOne _) once (ap length (sym listed.lists) ∙ one),
+      ∥∥₁_map (store.stored (c.in-Ok-open.ensures.ready.is_open clean)) (λ stored. rw (sized, schema) at stored.ours.file),
+      grind arith,
+      subst (ListsOne _) once (ap length (sym listed.lists) ∙ search rules),
     )
 
 pub returns-in-Ok-open-clause-fresh : goal.returns-in-Ok-open-clause-fresh

@@ -1,6 +1,5 @@
-use Rattle.argon2_store.proofs.Imports.{arith, settled_at, over_file}
-use Rattle.argon2_store.proofs.FileLemmas.{due_both, reads_of, shut_out}
-use Rattle.argon2_rows.proofs.TableLemmas.{has_same, some_kept}
+use Rattle.argon2_store.proofs.Imports.{arith, settled_at, over_file, has_same, some_kept}
+use Rattle.argon2_store.proofs.FileLemmas.{reads_of, shut_out}
 use Rattle.argon2_store.proofs.account_file.AccountFile+FileStore+D.checkpoint.Goals as goal
 
 pub invariant_of-self : goal.invariant_of-self
@@ -14,10 +13,5 @@ pub returns-clause-call : goal.returns-clause-call
 returns-clause-call g c names has =
     let done = c.checkpoint.ensures in
     reads_of {g = over_file {g = g.D.Disk}} (λ s db. settled_at s g.met.D.Disk.seen_may_stay db) c.args.self.now
-    c.is_closed.ensures c.if-is_closed.false _ c.checkpoint.result names has (
-      has_same over_file c.args.self.now.store c.checkpoint.new.self names (search arith) done.same has,
-      done.«open»,
-      (λ clean. due_both (over_file {g = g.D.Disk}) c.args.self.now.store c.checkpoint.new.self ⊥ c.checkpoint.result
-          (done.cause clean) done.told),
-      done.quiet,
-    ) _ c.read.ensures
+    c.is_closed.ensures c.if-is_closed.false _ c.checkpoint.result names has (search (arith, has_same, done.cause)) _
+    c.read.ensures

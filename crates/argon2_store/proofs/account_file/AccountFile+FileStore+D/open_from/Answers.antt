@@ -1,7 +1,6 @@
-use Rattle.argon2_store.proofs.Imports.{arith, rules, inl, subst, subst₂, sym, halves, no_doubt, settled_at, over_file, view, FoundIn, IsClean}
-use Rattle.argon2_store.proofs.NextOpenLemmas.{found_once}
-use Rattle.argon2_store.proofs.OpenLemmas.{is_honest, seen_same, unharmed_by_reads, unharmed_then}
-use Rattle.argon2_rows.proofs.TableLemmas.{leaves_kept}
+use Rattle.argon2_store.proofs.Imports.{arith, rules, inl, refl, subst, subst₂, sym, halves, no_doubt, settled_at, over_file, view, FoundIn, leaves_kept, AreClean}
+use Rattle.argon2_store.proofs.NextOpenLemmas.{near_found}
+use Rattle.argon2_store.proofs.OpenLemmas.{is_honest, of_database, seen_same, unharmed_by_reads, unharmed_then}
 use Rattle.argon2_store.proofs.account_file.AccountFile+FileStore+D.open_from.Goals as goal
 use Rattle.argon2_store.proofs.account_file.AccountFile+FileStore+D.open_from.Goals.{in-Ok-false-load, in-Err-load}
 
@@ -25,50 +24,37 @@ returns-in-Ok-true-load-clause-ready g c =
     )
 
 pub returns-in-Err-clause-err : goal.returns-in-Err-clause-err
-returns-in-Err-clause-err g c = record {
-  kind = search rules;
-  row = search (arith, rules);
-  damaged = search (arith, rules);
-  damage = search (arith, rules);
-  unharmed = λ clean left may. inl (c.is_damaged.ensures.same.crash left.log may.0, may.1);
-}
+returns-in-Err-clause-err g c =
+    of_database (search rules) (search (arith, rules)) (λ clean left may. inl (c.is_damaged.ensures.same.crash left.log may.0, may.1))
 
 pub returns-in-Err-open_files-clause-err : goal.returns-in-Err-open_files-clause-err
-returns-in-Err-open_files-clause-err g c = record {
-  kind = search rules;
-  row = search (arith, rules);
-  damaged = search (arith, rules);
-  damage = λ clean damaged. let was = c.in-Err-open_files.ensures.falls clean in search (arith, halves);
-  unharmed = unharmed_then c.args.files.log c.is_damaged.new.log c.args.files.db _ c.is_damaged.ensures.same
-      c.in-Err-open_files.ensures.left;
-}
+returns-in-Err-open_files-clause-err g c =
+    of_database (search rules) (λ clean damaged. let was = c.in-Err-open_files.ensures.falls clean in search (arith, halves))
+    (unharmed_then c.args.files.db _ c.is_damaged.ensures.same c.in-Err-open_files.ensures.left)
 
 -- a row is no account, or the rows can't be read
 pub returns-clause-err : goal.returns-clause-err
 returns-clause-err g c =
-    record {
-      kind = elim c.match-load.branch [
-        | in-Ok-false-load w ↦ let same = w.error-is in grind arith
-        | in-Err-load w ↦ let same = w.error-is in let of = w.into-error.ensures in grind arith
-      ];
-      row = λ is clean names lines holds. elim c.match-load.branch [
-        | in-Ok-false-load w ↦
-            let now = no_doubt _ (is_honest c.load.new.store.pool _ (sym c.close.ensures) clean) in
-            let found = subst (λ i. FoundIn 4096 i ((view c.in-Ok.store).committed 0)) (seen_same c.args.files.log
-            c.is_damaged.new.log c.args.files.db c.is_damaged.ensures.same) (c.in-Ok.ensures.found (search arith)) in
-            w.in-Ok-false-load.ensures.refused w.in-Ok-false-load.field-0-test now names holds.0 lines
-            (sym (found_once _ _ _ found holds.1))
-        | in-Err-load w ↦ let same = w.error-is in let of = w.into-error.ensures in grind arith
-      ];
-      damaged = λ is. elim c.match-load.branch [
-        | in-Ok-false-load w ↦ let same = w.error-is in grind arith
-        | in-Err-load w ↦ let same = w.error-is in let of = w.into-error.ensures in grind arith
-      ];
-      damage = λ clean damaged.
-          let now = no_doubt _ (is_honest c.load.new.store.pool _ (sym c.close.ensures) clean) in
-          let was : IsClean (view c.in-Ok.store) = omega (arith, c.load.ensures.quiet.clean, now) in
-          let held = c.in-Ok.ensures.honest was in search (arith, halves);
-      unharmed = unharmed_then c.args.files.log c.is_damaged.new.log c.args.files.db _ c.is_damaged.ensures.same
-          (unharmed_by_reads (c.is_damaged.new.log, c.args.files.db) c.in-Ok.store c.load.new.store _
-          g.met.D.Disk.seen_may_stay c.load.ensures.quiet c.in-Ok.ensures.fresh c.in-Ok.ensures.found c.close.ensures);
-    }
+    let now = λ (clean : AreClean g.D.Disk c.close.result.log c.close.result.db).
+    no_doubt _ (is_honest c.load.new.store.pool _ (sym c.close.ensures) clean) in
+    let held = λ (clean : AreClean g.D.Disk c.close.result.log c.close.result.db).
+    c.in-Ok.ensures.honest (omega (arith, c.load.ensures.quiet.clean, now clean)) in
+    let unharmed = unharmed_then c.args.files.db _ c.is_damaged.ensures.same
+    (unharmed_by_reads (c.is_damaged.new.log, c.args.files.db) c.in-Ok.store c.load.new.store _ g.met.D.Disk.seen_may_stay
+    c.load.ensures.quiet c.in-Ok.ensures.fresh c.in-Ok.ensures.found c.close.ensures) in
+    elim c.match-load.branch [
+      | in-Ok-false-load w ↦ rw w.error-is record {
+        kind = inl refl;
+        row = λ is clean names lines holds.
+            let found = subst (λ i. FoundIn 4096 i ((view c.in-Ok.store).committed 0))
+            (seen_same c.args.files.db c.is_damaged.ensures.same) (c.in-Ok.ensures.found (search arith)) in
+            w.in-Ok-false-load.ensures.refused w.in-Ok-false-load.field-0-test (now clean) names holds.0 lines
+            (sym ((near_found _ _ found).0 _ holds.1));
+        damaged = λ is. absurd cc;
+        damage = λ clean damaged. let was = held clean in search (arith, halves);
+        unharmed = unharmed;
+      }
+      | in-Err-load w ↦ rw w.error-is (of_database (let of = w.into-error.ensures in grind arith)
+          (λ clean damaged. let was = held clean in search (arith, halves))
+          unharmed)
+    ]

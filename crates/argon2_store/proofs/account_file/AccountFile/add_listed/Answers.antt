@@ -1,6 +1,6 @@
-use Rattle.argon2_store.proofs.Imports.{arith, inr, Ok, AddsNames, Finishes, HasRows, IsHonest, Texts, map, ∥∥₁_map, entry_of}
+use Rattle.argon2_store.proofs.Imports.{arith, Ok, AddsNames, Finishes, HasRows, IsHonest, Texts, map, ∥∥₁_map, entry_of, changes_of, err_is, has_either, on_all}
+use Rattle.argon2_store.proofs.Imports.{some_kept, taken_back}
 use Rattle.argon2_rows.proofs.AddLemmas.{undone}
-use Rattle.argon2_rows.proofs.TableLemmas.{changes_of, err_is, has_either, on_all, some_kept, taken_back}
 use Rattle.argon2_store.proofs.account_file.AccountFile.add_listed.Goals as goal
 use Rattle.argon2_store.proofs.account_file.AccountFile.add_listed.Goals.{After-commit}
 
@@ -10,12 +10,8 @@ written : (g : _) (c : After-commit g) (before : Texts) → HasRows g.S.Store c.
 written g c before has =
     let (after, good, wrote, all) = c.in-Ok.ensures before has.0 (λ clean unbroken. has.1.seen clean (c.requires clean)) in
     let ends : Finishes g.S.Store c.add_each.new.store c.commit.new.self (Ok tt) c.commit.result = search arith in
-    let adds = λ (clean : IsHonest g.S.Store c.commit.new.self). all (omega (arith, clean, ends.clean)) in (
-      after,
-      λ clean. inr (adds clean),
-      on_all c.commit.result adds,
-      changes_of g.met.S.Store.settled c.requires (Ok tt) c.commit.result has good wrote ends,
-    )
+    let adds = λ (clean : IsHonest g.S.Store c.commit.new.self). all (omega (arith, clean, ends.clean)) in
+    (after, search arith, on_all c.commit.result adds, changes_of g.met.S.Store.settled c.requires _ _ has good wrote ends)
 
 pub returns-in_ok-commit-in-Ok : goal.returns-in_ok-commit-in-Ok
 returns-in_ok-commit-in-Ok g c before has =
@@ -27,15 +23,12 @@ returns-in_err-commit-in-Ok g c before has =
     (rw c.in_err-commit-in-Ok.was at (written g (goal.at.returns-in_err-commit-in-Ok g c).After-commit before has))
 
 pub invariant_of-self : goal.invariant_of-self
-invariant_of-self g c = record {
-  kept = ∥∥₁_map c.args.self.now.kept (λ it. has_either c.commit.result (written g c it.0 it.1).3);
-}
+invariant_of-self g c = record { kept = ∥∥₁_map c.args.self.now.kept (λ it. has_either c.commit.result (written g c it.0 it.1).3) }
 
 pub returns-in-Err : goal.returns-in-Err
 returns-in-Err g c before has =
     let (after, good, wrote, adds) = c.in-Err.ensures before has.0 (λ clean unbroken. has.1.seen clean (c.requires clean)) in
-    undone g.S.Store c.args.self.now.store c.add_each.new.store c.undo.new.store (map entry_of c.args.new.now) c.in-Err.error
-    g.met.S.Store.settled c.requires has wrote adds c.undo.ensures.kept c.undo.ensures.blame c.undo.ensures.quiet
+    search (arith, undone, g.met.S.Store.settled)
 
 pub invariant_of-self-in-Err : goal.invariant_of-self-in-Err
 invariant_of-self-in-Err g c = record {

@@ -1,4 +1,4 @@
-use Rattle.argon2_store.proofs.Imports.{None, refl, removing, NameUnknown}
+use Rattle.argon2_store.proofs.Imports.{None, refl}
 use Rattle.argon2_store.proofs.FileLemmas.{cannot_serve, refuses, writes}
 use Rattle.argon2_store.proofs.account_file.AccountFile.remove.Goals as goal
 
@@ -6,10 +6,8 @@ pub returns-in_err-text : goal.returns-in_err-text
 returns-in_err-text g c = cannot_serve c.in_err-text.ensures.reads c.from_residual.ensures.1
 
 pub returns-in_default : goal.returns-in_default
-returns-in_default g c =
-    refuses (removing c.args.name.now) c.in_ok-text.ensures.reads c.in_default.is c.in_ok-text.ensures.shows NameUnknown refl refl
+returns-in_default g c = refuses c.in_ok-text.ensures.reads c.in_default.is c.in_ok-text.ensures.shows refl
 
 pub returns : goal.returns
 returns g c =
-    writes (removing c.args.name.now) c.in_ok-text.ensures.reads c.in-Some.is c.in_ok-text.ensures.shows _ None refl refl _
-    c.write_row.ensures _ c.read.ensures
+    writes c.in_ok-text.ensures.reads c.in-Some.is c.in_ok-text.ensures.shows None refl refl c.write_row.ensures c.read.ensures

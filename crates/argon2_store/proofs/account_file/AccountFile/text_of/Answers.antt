@@ -1,21 +1,19 @@
-use Rattle.argon2_store.proofs.Imports.{arith}
-use Rattle.argon2_store.proofs.FileLemmas.{is_open, reads_of}
-use Rattle.argon2_rows.proofs.TableLemmas.{reads_keep, shape_of, some_kept}
+use Rattle.argon2_store.proofs.Imports.{arith, IsHonest, IsOpen, reads_keep, shape_of, some_kept}
+use Rattle.argon2_store.proofs.FileLemmas.{reads_of}
 use Rattle.argon2_store.proofs.account_file.AccountFile.text_of.Goals as goal
 
 pub look_up-text-requires : goal.look_up-text-requires
-look_up-text-requires g c = search (arith, shape_of, is_open, g.met.S.Store.settled)
+look_up-text-requires g c = search (arith, shape_of)
 
 pub invariant_of-self : goal.invariant_of-self
 invariant_of-self g c = record {
-  kept = some_kept c.args.self.now.kept (λ names has. (reads_keep g.met.S.Store.settled
-      (is_open g.met.S.Store.settled c.args.self.now c.is_closed.ensures c.if-is_closed.false) c.look_up-text.result
-      g.met.S.Store.broken_if_shut has (c.look_up-text.ensures.reads names) c.undo_failed.ensures).0);
+  kept = some_kept c.args.self.now.kept (λ names has. (reads_keep g.met.S.Store.settled (search arith)
+      c.look_up-text.result g.met.S.Store.broken_if_shut has (c.look_up-text.ensures.reads names) c.undo_failed.ensures).0);
 }
 
 pub returns-clause-reads : goal.returns-clause-reads
 returns-clause-reads g c names has =
-    reads_of g.met.S.Store.settled c.args.self.now c.is_closed.ensures c.if-is_closed.false _
-    c.look_up-text.result names has
-    (reads_keep g.met.S.Store.settled (is_open g.met.S.Store.settled c.args.self.now c.is_closed.ensures c.if-is_closed.false) _
-    g.met.S.Store.broken_if_shut has (c.look_up-text.ensures.reads names) c.undo_failed.ensures) _ c.read.ensures
+    let opens : IsHonest g.S.Store c.args.self.now.store → IsOpen g.S.Store c.args.self.now.store = search arith in
+    reads_of g.met.S.Store.settled c.args.self.now c.is_closed.ensures c.if-is_closed.false _ _ names has
+    (reads_keep g.met.S.Store.settled opens _ g.met.S.Store.broken_if_shut has (c.look_up-text.ensures.reads names)
+    c.undo_failed.ensures) _ c.read.ensures

@@ -1,6 +1,5 @@
-use Rattle.argon2_store.proofs.Imports.{refl, None, IfSome, IsUtf8, IsSomeAnd, option_copied, ∥∥₁_map, Texts, HasRows, Changes, IsLong, Writes, changed}
-use Rattle.argon2_rows.proofs.RowLemmas.{changed_back, texts_changed}
-use Rattle.argon2_rows.proofs.TableLemmas.{changes_of, has_either, writes_nothing}
+use Rattle.argon2_store.proofs.Imports.{arith, refl, None, IfSome, IsUtf8, IsSomeAnd, option_copied, ∥∥₁_map, Texts, HasRows, Changes, IsLong, Writes, changed}
+use Rattle.argon2_store.proofs.Imports.{changed_back, texts_changed, changes_of, has_either, writes_nothing}
 use Rattle.argon2_store.proofs.account_file.AccountFile.write_row.Goals as goal
 use Rattle.argon2_store.proofs.account_file.AccountFile.write_row.Goals.{After-finish, in-Some-Some, in-Some-None, in-None-Some, in-None-None}
 
@@ -15,17 +14,10 @@ written g c before has =
     let both : IfSome (option_copied c.args.new) IsUtf8 × Writes g.S.Store c.args.self.now.store c.match-old.self.1.0 before
     (changed before name (option_copied c.args.new)) (IsSomeAnd (option_copied c.args.new) (λ text. IsLong (name, text)))
     c.match-old.done = elim c.match-old.branch [
-      | in-Some-Some w ↦ rw (w.self-is, w.done-is, w.in-Some-Some.is-1)
-          (w.replace-done.ensures.text, w.replace-done.ensures.writes before (rw w.in-Some-Some.is-0 at known))
-      | in-Some-None w ↦ rw (w.self-is, w.done-is, w.in-Some-None.is-1)
-          (tt, w.remove-done.ensures.writes before (rw w.in-Some-None.is-0 at known))
-      | in-None-Some w ↦ rw (w.self-is, w.done-is, w.in-None-Some.is-1)
-          (w.insert-done.ensures.text, w.insert-done.ensures.writes before (rw w.in-None-Some.is-0 at known))
-      | in-None-None w ↦ rw (w.self-is, w.done-is, w.in-None-None.is-1) (
-        tt,
-        writes_nothing g.S.Store (λ clean.
-            changed_back before before name None (λ other far. refl) (rw w.in-None-None.is-0 at known clean)),
-      )
+      | in-Some-Some w ↦ let writes = w.replace-done.ensures.writes before in search arith
+      | in-Some-None w ↦ let writes = w.remove-done.ensures.writes before in search arith
+      | in-None-Some w ↦ let writes = w.insert-done.ensures.writes before in search arith
+      | in-None-None w ↦ let back = changed_back before before name None (λ other far. refl) in search (arith, writes_nothing)
     ] in
     changes_of g.met.S.Store.settled c.requires.open c.match-old.done c.finish.result has
     (texts_changed before name (option_copied c.args.new) has.0 c.utf8.name both.0) both.1 c.finish.ensures
@@ -34,6 +26,4 @@ pub returns : goal.returns
 returns g c = written g (goal.at.returns g c).After-finish
 
 pub invariant_of-self : goal.invariant_of-self
-invariant_of-self g c = record {
-  kept = ∥∥₁_map c.args.self.now.kept (λ it. has_either c.finish.result (written g c it.0 it.1));
-}
+invariant_of-self g c = record { kept = ∥∥₁_map c.args.self.now.kept (λ it. has_either c.finish.result (written g c it.0 it.1)) }
