@@ -1,5 +1,5 @@
 -- What passwords make of a value: within a bound, accepted, no weaker than a target.
-use Rattle.std.proofs.Common.{◌≡◌, ℕ, ◌*◌, ◌≤◌, Bool, if◌then◌else◌, length, List, Option, Some, None, Result, Ok, Err, ◌⊎◌, inl, inr, ap, refl, arith, div-mul-le_self}
+use Rattle.std.proofs.Common.{◌≡◌, ℕ, ◌*◌, ◌≤◌, Bool, if◌then◌else◌, List, Option, Some, None, Result, Ok, Err, ◌⊎◌, inl, inr, ap, refl, arith, div-mul-le_self}
 use Rattle.std.proofs.lemmas.Bool.Decides.{nat_tests}
 use Rattle.std.specs.Prelude.{◌≢◌, IsSomeAnd, ok_or}
 use Rattle.argon2_base.specs.Error.{Fault, bad_algorithm, bad_password, bad_version, fault_of}
@@ -14,15 +14,14 @@ use Rattle.argon2.specs.declared.bound.BoundError.{BoundError}
 use Rattle.argon2.specs.declared.bound.BoundError.TheVariants.{Refused, TooExpensive}
 use Rattle.argon2.specs.declared.version.Version.{Version}
 use Rattle.argon2.specs.Bound.{AsksWithin, HashRefusal, IsWithin}
-use Rattle.argon2.specs.TextHashing.{IsFresh, IsHashAnswer, Target, hash_outcome}
-use Rattle.argon2.specs.Refusals.{max_len}
+use Rattle.argon2.specs.TextHashing.{IsFresh, IsHashAnswer, Target}
 use Rattle.argon2.specs.Rfc9106.{segment_length_for}
 use Rattle.argon2.specs.Settings.{Parameters, Settings}
 use Rattle.argon2.specs.StoredTexts.{AcceptsBy, IsVerifyAnswer, Stored, is_tag, result_and_then, shown_settings, stored_of}
 use Rattle.argon2.proofs.login_lemmas.LoginLemmas.{hash_made}
 use Rattle.argon2.proofs.password_hash_lemmas.MadeValues.{made_accepts, made_shows}
 use Rattle.argon2.proofs.password_hash_lemmas.Verified.{exact}
-use Rattle.argon2_policy.specs.Policy.{Admits, Denial, IsPolicy, Policy, SecretsRefusal}
+pub use Rattle.argon2_policy.specs.Policy.{Admits, Denial, IsPolicy, Policy, SecretsRefusal, policy_value}
 
 -- ---- the bound
 
@@ -49,21 +48,15 @@ asks_within bound v settings shows within = record {
 
 -- a value that is not admitted asks for more, or for nothing that can be read
 refused_asks : (bound : Bound) (v : Phc) (e : BoundError) → HashRefusal bound v e → ¬ (AsksWithin bound v)
-refused_asks bound v TooExpensive why asks = let a = asks.asked in let w = asks.within in grind arith
-refused_asks bound v (Refused e) why asks = let a = asks.asked in absurd cc
+refused_asks bound v e why asks = let a = asks.asked in let w = asks.within in grind arith
 
 -- ---- fresh values
-
-short : (target : Target) (password salt : List ℕ) (v : Phc) → Ok v ≡ hash_outcome target password salt → length password ≤ max_len
-short target password salt v is = grind (arith, nat_tests)
 
 -- a hash that was answered is a fresh one
 pub is_fresh : (target : Target) (password drawn : List ℕ) (h : PasswordHash) → IsHashAnswer target password drawn (Ok h)
     → IsFresh target password drawn (phc_of h)
-is_fresh target password drawn h (inl is) =
-    let same = hash_made target password drawn h (inl is) in
-    ((rw same at h.grammatical).salt, short target password drawn (phc_of h) is, same)
-is_fresh target password drawn h (inr memory) = let no_memory_of = memory.0 in absurd cc
+is_fresh target password drawn h answer =
+    let same = hash_made target password drawn h answer in ((rw same at h.grammatical).salt, grind (arith, nat_tests), same)
 
 module _ (policy : Policy) (is : IsPolicy policy) (password drawn : List ℕ) where
   pub fresh_admits : (w : Phc) → IsFresh policy.target password drawn w → Admits policy password w
@@ -77,10 +70,7 @@ module _ (policy : Policy) (is : IsPolicy policy) (password drawn : List ℕ) wh
 -- a password that verifying calls a wrong one is not accepted
 pub wrong : (secret password : List ℕ) (v : Phc) → IsVerifyAnswer secret password v (Err PasswordInvalid)
     → ¬ (AcceptsBy secret password v)
-wrong secret password v answer = elim (exact secret password v (Err PasswordInvalid) answer) [
-  | inl memory ↦ absurd cc
-  | inr never ↦ never
-]
+wrong secret password v answer = let why = exact secret password v (Err PasswordInvalid) answer in grind arith
 
 -- what a value comes to by such a test of its hash
 abbrev judged : (Stored → Bool) → Result Stored Fault → Result (Unit {0}) Fault
@@ -113,11 +103,7 @@ module _ (policy : Policy) (password : List ℕ) (v : Phc) where
 
   not_by_either : (e : Error) → SecretsRefusal policy password v e
       → (e ≡ OutOfMemory) ⊎ ¬ (IsSomeAnd policy.old_secret (λ secret. AcceptsBy secret password v))
-  not_by_either e (inl why) = not_by_old policy.old_secret e (λ secret is. elim why.1 [
-    | inl differs ↦ under_any policy.target.secret secret password v e differs why.0
-    | inr none ↦ absurd cc
-  ])
-  not_by_either e (inr why) = not_by_old policy.old_secret e (λ secret is. rw is at why.1)
+  not_by_either e why = not_by_old policy.old_secret e (λ secret is. grind (arith, under_any policy.target.secret secret password v e))
 
   -- a refusal other than of memory says that the password is not accepted within the bound
   pub denied : (e : BoundError) → Denial policy password v e → (e ≡ Refused OutOfMemory) ⊎ ¬ (Admits policy password v)
