@@ -1,52 +1,45 @@
 -- What calls on a file and answers of a policy make of the names.
-use Rattle.std.proofs.Common.{◌≡◌, ◌⊎◌, ℕ, List, [], ◌∷◌, Option, Some, None, Result, Ok, Err, refl, ap, ◌∙◌, inl, inr, arith}
+pub use Rattle.std.proofs.Common.{[], ap, arith, Err, inl, inr, List, None, Ok, Option, refl, Result, rules, Some, ℕ, ◌∙◌, ◌∷◌, ◌≡◌, ◌⊎◌}
 use Rattle.std.specs.FinMap.{get}
 use Rattle.std.proofs.lemmas.Slice.Eq.{bytes_eq-Decides}
-use Rattle.std.specs.Prelude.{◌≢◌, ◌<◌, IsTrue, length}
-use Rattle.std.specs.Result.{result_map_both}
-use Rattle.rand_core.specs.Stream.{Stream, fill_bytes}
+use Rattle.std.specs.Prelude.{◌<◌, IsTrue, length}
+pub use Rattle.std.specs.Result.{result_map_both}
+pub use Rattle.rand_core.specs.Stream.{fill_bytes, Stream}
 use Rattle.sqlite_trees.specs.declared.store.Store.{Ghosts}
-use Rattle.argon2_base.specs.PhcFields.{phc_of}
+pub use Rattle.argon2_base.specs.PhcFields.{phc_of}
 use Rattle.argon2_base.specs.declared.phc.hash.PasswordHash.{PasswordHash}
 use Rattle.argon2.specs.TextHashing.{HashingRefusal, IsFresh}
 use Rattle.argon2.specs.declared.bound.BoundError.{BoundError}
 use Rattle.argon2.specs.Refusals.{max_len}
 use Rattle.argon2_base.specs.declared.error.password_hash.Error.{Error}
 use Rattle.argon2.specs.declared.bound.BoundError.TheVariants.{Refused, TooExpensive}
-use Rattle.argon2.specs.declared.login.answers.Accepted.{Accepted}
-use Rattle.argon2.specs.declared.login.answers.Accepted.TheVariants.{Current, Kept, Rehashed}
+pub use Rattle.argon2.specs.declared.login.answers.Accepted.{Accepted}
+pub use Rattle.argon2.specs.declared.login.answers.Accepted.TheVariants.{Kept, Rehashed}
 use Rattle.argon2_policy.proofs.PolicyLemmas.{denied}
-use Rattle.argon2_policy.specs.Policy.{Admits, ChangeRefusal, Denial, DrawsIfAdmitted, LogsIn, Policy}
+pub use Rattle.argon2_policy.specs.Policy.{Admits, ChangeRefusal, Denial, DrawsIfAdmitted, LogsIn, Policy, policy_value}
 use Rattle.argon2_rows.proofs.RowLemmas.{get-changed}
 use Rattle.argon2_rows.specs.Names.{Texts, changed}
 use Rattle.argon2_rows.specs.Table.{IsHonest}
-use Rattle.argon2_store.specs.AccountFile.{Answers, HasNames, Serves, database_of}
-use Rattle.argon2_store.specs.Edits.{Edit, and_then, gives, name_of, names_after, refusal, replacing, text_of, unless}
-use Rattle.argon2_store.specs.Errors.{is_refusal}
+pub use Rattle.argon2_store.specs.AccountFile.{Answers, database_of, HasNames, Serves}
+pub use Rattle.argon2_store.specs.Edits.{adding, Edit, gives, name_of, names_after, replacing, setting, text_of}
 use Rattle.argon2_store.specs.declared.account_file.AccountFile.{AccountFile}
 use Rattle.argon2_store.specs.Runs.{Does, reads}
-use Rattle.argon2_store.specs.declared.error.FileError.{FileError}
-use Rattle.argon2_accounts.specs.Accounts.{AdmitsName, AdmitsText, ChangesName, GivesPassword, IsOfReading, LogsNameIn, RelatesNames, TextRefusal}
-use Rattle.argon2_accounts.specs.Errors.{is_account_refusal, of_file, of_policy}
+pub use Rattle.argon2_store.specs.declared.error.FileError.{FileError}
+pub use Rattle.argon2_accounts.specs.Accounts.{AdmitsName, ChangesName, GivesPassword, LogsNameIn, RelatesNames, Replaces, TellsOfRenewal, TextRefusal}
+pub use Rattle.argon2_accounts.specs.Errors.{is_account_refusal, of_file, of_policy}
+pub use Rattle.argon2_rows.proofs.TableLemmas.{err_is}
 
 -- ---- names
-
-unless_ok : (r : Option FileError) (x y : Texts) → and_then (unless r x) (λ names. Ok names) ≡ Ok y → y ≡ x
-unless_ok r x y is = grind arith
 
 -- an edit that is accepted leaves its name what it gives
 edit_leaves : (edit : Edit) (before after : Texts) → names_after (edit ∷ []) before ≡ Ok after
     → after ≡ changed before (name_of edit) (gives edit (get before (name_of edit)))
-edit_leaves edit before after is = unless_ok (refusal edit (get before (name_of edit))) _ after is
+edit_leaves edit before after is = grind arith
 
 -- the text of a hash says the hash's value
-pub accepts : (policy : Policy) (password : List ℕ) (h : PasswordHash) → Admits policy password (phc_of h)
-    → AdmitsText policy password (text_of h)
-accepts policy password h admits = (phc_of h, (h.grammatical, refl), admits)
-
 pub has_password : (policy : Policy) (name password : List ℕ) (names : Texts) (h : PasswordHash)
     → get names name ≡ Some (text_of h) → Admits policy password (phc_of h) → AdmitsName policy names name password
-has_password policy name password names h has admits = rw has (accepts policy password h admits)
+has_password policy name password names h has admits = rw has (phc_of h, (h.grammatical, refl), admits)
 
 pub gives_password : (policy : Policy) (edit : Edit) (password : List ℕ) (before after : Texts) (h : PasswordHash)
     → names_after (edit ∷ []) before ≡ Ok after → gives edit (get before (name_of edit)) ≡ Some (text_of h)
@@ -91,32 +84,14 @@ module _ {S : Type 0} {g : Ghosts S} where
 
 -- ---- a text that is replaced
 
--- a refusal comes of the names
-of_names : (e : FileError) → IsTrue (is_account_refusal (of_file e)) → IsTrue (is_refusal e)
-of_names e is = grind arith
-
-not_refused : (name new : List ℕ) (h : PasswordHash) → refusal (replacing name (text_of h) new) (Some (text_of h)) ≡ None
-not_refused name new h = let same = (bytes_eq-Decides (text_of h) (text_of h)).1 refl in rw same refl
-
--- the text that was read is replaced, unless the file fails
-pub never_refused : (name new : List ℕ) (h : PasswordHash) (before : Texts) (e : FileError)
-    → get before name ≡ Some (text_of h) → names_after (replacing name (text_of h) new ∷ []) before ≢ Err e
-never_refused name new h before e has is =
-    let no : refusal (replacing name (text_of h) new) (get before name) ≡ None = rw has (not_refused name new h) in
-    let never = rw no at is in absurd cc
-
--- so an error of it is no refusal
+-- the text that was read is replaced, unless the file fails: an error of it is no refusal
 pub fails_to_edit : (name old new : List ℕ) (h : PasswordHash) (before after : Texts) (e : FileError) → old ≡ text_of h
     → get before name ≡ Some (text_of h) → Answers before (replacing name old new ∷ []) (Err e) after
     → ¬ (IsTrue (is_account_refusal (of_file e)))
 fails_to_edit name old new h before after e same has answers is =
-    never_refused name new h before e has (rw same at (answers.0 (of_names e is)))
+    let decides = bytes_eq-Decides (text_of h) (text_of h) in grind arith
 
 -- ---- answers of a policy
-
--- an error of the policy is none of the file
-pub of_no_file : (why : BoundError) → IsOfReading None (of_policy why)
-of_no_file why = grind arith
 
 long : (password : List ℕ) (e : Error) → IsTrue (is_account_refusal (of_policy (Refused e))) → HashingRefusal password e
     → max_len < length password
@@ -163,11 +138,8 @@ pub stays : (policy : Policy) (name password drawn : List ℕ) (names : Texts) (
     → get names name ≡ Some (text_of h) → Admits policy password (phc_of h) → ¬ (did ≡ Rehashed)
     → LogsIn policy password drawn (phc_of h) (Ok did) (phc_of h)
     → LogsNameIn policy name password drawn (Ok did) names names
-stays policy name password drawn names h Current has by isnt step =
-    let it = has_password policy name password names h has by in (it, it, (phc_of h, phc_of h, has, step, refl))
-stays policy name password drawn names h Kept has by isnt step =
-    let it = has_password policy name password names h has by in (it, it, (phc_of h, phc_of h, has, step, refl))
-stays policy name password drawn names h Rehashed has by isnt step = absurd (isnt refl)
+stays policy name password drawn names h did has by isnt step =
+    let it = has_password policy name password names h has by in (it, it, (phc_of h, phc_of h, has, step, grind arith))
 
 -- one that makes a fresh text, which is written, or the file fails
 module _ (policy : Policy) (name password old drawn : List ℕ) (text fresh : PasswordHash) (before after : Texts)

@@ -1,5 +1,4 @@
-use Rattle.std.proofs.Common.{Some, refl}
-use Rattle.argon2_rows.proofs.TableLemmas.{err_is}
+use Rattle.argon2_accounts.proofs.AccountLemmas.{err_is, refl, Some}
 use Rattle.argon2_accounts.proofs.accounts.stored.Goals as goal
 
 pub returns-in_err-text-clause-reads : goal.returns-in_err-text-clause-reads

@@ -1,17 +1,7 @@
-use Rattle.std.proofs.Common.{◌≡◌, ◌∷◌, [], inl, inr, refl, rules, None, Result, Ok, Err}
-use Rattle.rand_core.specs.Stream.{fill_bytes}
-use Rattle.argon2_base.specs.PhcFields.{phc_of}
-use Rattle.argon2.specs.declared.login.answers.Accepted.{Accepted}
-use Rattle.argon2.specs.declared.login.answers.Accepted.TheVariants.{Kept, Rehashed}
-use Rattle.argon2_policy.specs.Policy.{LogsIn, policy_value}
-use Rattle.argon2_store.specs.AccountFile.{Serves}
-use Rattle.argon2_store.specs.Edits.{replacing, text_of}
-use Rattle.argon2_store.specs.declared.error.FileError.{FileError}
-use Rattle.argon2_accounts.specs.Accounts.{LogsNameIn, Replaces, TellsOfRenewal}
-use Rattle.argon2_accounts.specs.Errors.{of_file}
+use Rattle.argon2_accounts.proofs.AccountLemmas.{[], Accepted, denies, edit_after_read, Err, err_is, fails_to_edit, FileError, fill_bytes, inl, inr, keeps_text, Kept, LogsIn, None}
+use Rattle.argon2_accounts.proofs.AccountLemmas.{of_file, arith, Ok, phc_of, policy_value, reads_leave, refl, Rehashed, renews, Replaces, replacing, Result, rules, Serves, stays, TellsOfRenewal}
+use Rattle.argon2_accounts.proofs.AccountLemmas.{text_of, ◌∷◌, ◌≡◌}
 use Rattle.argon2_accounts.specs.declared.error.AccountError.{AccountError}
-use Rattle.argon2_rows.proofs.TableLemmas.{err_is}
-use Rattle.argon2_accounts.proofs.AccountLemmas.{denies, edit_after_read, fails_to_edit, keeps_text, of_no_file, reads_leave, renews, stays}
 use Rattle.argon2_accounts.proofs.accounts.Accounts.log_in.Goals as goal
 use Rattle.argon2_accounts.proofs.accounts.Accounts.log_in.Goals.{After-replace}
 
@@ -51,16 +41,9 @@ called : (g : _) (c : After-replace g) (done : Result (Unit {0}) FileError) (res
     c.replace.new.self → TellsOfRenewal result done → Replaces (policy_value c.args.self.now.policy).target c.args.name.now
     c.args.password.now (fill_bytes 16 (g.R.Rng.stream c.args.rng.now)).0 result (TellsOfRenewal result)
     c.args.self.now.file c.replace.new.self
-called g c done result serves tells = inr (
-  c.stored.new.file,
-  c.as_str.result.now,
-  c.in-Some.fresh,
-  done,
-  rw c.in_ok-text.ensures.reads.2 at c.in_ok-text.ensures.reads.1,
-  (renewed g c).2,
-  serves,
-  tells,
-)
+called g c done result serves tells =
+    let read = rw c.in_ok-text.ensures.reads.2 at c.in_ok-text.ensures.reads.1 in
+    inr (c.stored.new.file, _, c.in-Some.fresh, done, read, (renewed g c).2, serves, tells)
 
 pub returns-in_err-text-clause-call : goal.returns-in_err-text-clause-call
 returns-in_err-text-clause-call g c =
@@ -69,7 +52,7 @@ returns-in_err-text-clause-call g c =
 pub returns-in_err-accepted-clause-call : goal.returns-in_err-accepted-clause-call
 returns-in_err-accepted-clause-call g c =
     rw (err_is c.from_residual-in_err-accepted.result _ c.from_residual-in_err-accepted.ensures.1)
-    (inl (None, rw c.in_ok-text.ensures.reads.2 at c.in_ok-text.ensures.reads.1, of_no_file _))
+    (inl (None, rw c.in_ok-text.ensures.reads.2 at c.in_ok-text.ensures.reads.1, grind arith))
 
 pub returns-in-Ok-clause-call : goal.returns-in-Ok-clause-call
 returns-in-Ok-clause-call g c =
@@ -106,18 +89,10 @@ returns-in-Err-clause-names g c =
 
 pub returns-in-Err-2-clause-names : goal.returns-in-Err-2-clause-names
 returns-in-Err-2-clause-names g c =
-    let policy = policy_value c.args.self.now.policy in
-    let drawn = (fill_bytes 16 (g.R.Rng.stream c.args.rng.now)).0 in
-    let e = c.in-Err-2.error in
-    let same : c.as_str.result.now ≡ text_of c.in_ok-text.text = search rules in
-    let named : c.into.result ≡ of_file e = search rules in
+    let named : c.into.result ≡ of_file c.in-Err-2.error = search rules in
     rw named
-    (edit_after_read (LogsNameIn policy c.args.name.now c.args.password.now drawn (Err (of_file e)))
-    (replacing c.args.name.now c.as_str.result.now (text_of c.in-Some.fresh)) (Err e) _
-    c.args.self.now.file c.stored.new.file c.replace.new.self c.in_ok-text.ensures.reads.1
-    c.in-Err-2.ensures
-    (λ before after has honest answers. (
+    (edit_after_read _ _ _ _ _ _ _ c.in_ok-text.ensures.reads.1 c.in-Err-2.ensures (λ before after has honest answers. (
       answers.1,
-      λ is. absurd (fails_to_edit c.args.name.now c.as_str.result.now (text_of c.in-Some.fresh) c.in_ok-text.text before after
-          e same (c.in_ok-text.ensures.found before has honest) answers is),
+      λ is.
+          absurd (fails_to_edit _ _ _ c.in_ok-text.text before after _ (search rules) (c.in_ok-text.ensures.found before has honest) answers is),
     )))

@@ -1,10 +1,4 @@
-use Rattle.std.proofs.Common.{◌≡◌, inr, refl, rules}
-use Rattle.std.specs.Result.{result_map_both}
-use Rattle.argon2_accounts.specs.Errors.{of_file}
-use Rattle.argon2_policy.specs.Policy.{policy_value}
-use Rattle.argon2_store.specs.Edits.{setting, text_of}
-use Rattle.argon2_rows.proofs.TableLemmas.{err_is}
-use Rattle.argon2_accounts.proofs.AccountLemmas.{stored}
+use Rattle.argon2_accounts.proofs.AccountLemmas.{err_is, inr, of_file, policy_value, refl, result_map_both, rules, setting, stored, text_of, ◌≡◌}
 use Rattle.argon2_accounts.proofs.accounts.Accounts.set_password.Goals as goal
 
 pub returns-in_err-text-clause-names : goal.returns-in_err-text-clause-names
