@@ -1,3 +1,3 @@
 mod LineLemmas
 mod Looks
-pub mod Served
+pub mod Common

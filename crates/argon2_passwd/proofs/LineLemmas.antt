@@ -1,27 +1,20 @@
 -- The first line of a text, and what lines come to one by one.
-use Rattle.std.proofs.Common.{arith, ◌≡◌, ◌∙◌, ◌+◌, ◌<◌, ◌==◌, min, ℕ, suc, length, Bor, List, [], ◌∷◌, ◌++◌, Result, map, ap, sym, refl, ⊎_elim, false, drop, drop-cons, get_or, take}
-use Rattle.std.specs.Prelude.{All}
+use Rattle.argon2_passwd.proofs.Common.{[], All, AllZip, ap, append_assoc, arith, Bor, common_steps, drop, drop-cons, false, Flaw, get_or, IsFirstMatchOrLen, length, line_of, lines, lines_of_parts}
+use Rattle.argon2_passwd.proofs.Common.{List, map, min, refl, Result, slice_split, StoredText, strip_carriage_return, strip_last, suc, sym, take, ℕ, ⊎_elim, ◌++◌, ◌+◌, ◌<◌, ◌==◌, ◌∙◌, ◌∷◌, ◌≡◌}
 use Rattle.std.proofs.lemmas.Bool.{cases_lt}
-use Rattle.std.proofs.lemmas.Grind.{common_steps}
+use Rattle.std.proofs.lemmas.List.{map-append}
 use Rattle.std.proofs.lemmas.List.Splits.{length-slice_split, slice_split_at, slice_split_none}
-use Rattle.std.specs.Io.BufRead.{strip_last}
-use Rattle.std.specs.List.{AllZip, IsFirstMatchOrLen, slice_split}
-use Rattle.std.specs.Str.Lines.{lines, lines_of_parts, strip_carriage_return}
-use Rattle.argon2_rows.specs.declared.text.StoredText.{StoredText}
-use Rattle.argon2_passwd.specs.Passwords.{line_of}
-use Rattle.argon2_passwd.specs.declared.failure.Flaw.{Flaw}
 
 parts-cons : (part : List ℕ) (parts : List (List ℕ)) → 0 < length parts
     → lines_of_parts (part ∷ parts) ≡ strip_carriage_return part ∷ lines_of_parts parts
-parts-cons part [] some = absurd (omega arith)
-parts-cons part (next ∷ more) some = refl
+parts-cons part parts some = grind arith
 
 stripped : (line : List ℕ) → strip_last 13 line ≡ strip_carriage_return line
 stripped [] = refl
 stripped (b ∷ line) = grind arith
 
 line_of-feed : (line : List ℕ) → line_of (line ++ 10 ∷ []) ≡ strip_carriage_return line
-line_of-feed line = let same = stripped line in grind (arith, common_steps)
+line_of-feed line = grind (arith, common_steps, stripped)
 
 lines-feed : (line after : List ℕ) → All (λ b. (b == 10) ≡ false) line
     → lines (line ++ 10 ∷ after) ≡ line_of (line ++ 10 ∷ []) ∷ lines after
@@ -60,8 +53,7 @@ next_line ls k x within is = drop-cons ls k x within ∙ ap (λ y. y ∷ drop (s
 -- a line more, and none
 pub map-push : {A B : Type 0} (f : A → B) (found : List A) (x : A) (rest : List B)
     → map f found ++ f x ∷ rest ≡ map f (found ++ x ∷ []) ++ rest
-map-push f [] x rest = refl
-map-push f (y ∷ found) x rest = ap (λ l. f y ∷ l) (map-push f found x rest)
+map-push f found x rest = simp (map-append, append_assoc)
 
 pub none_left : {X : Type 0} (P : List ℕ → X → Type 0) (bytes : List ℕ) → length bytes ≡ 0 → AllZip P (lines bytes) []
 none_left P [] none = tt

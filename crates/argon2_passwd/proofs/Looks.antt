@@ -1,18 +1,8 @@
 -- Look-ups in a file, one after the other.
-use Rattle.std.proofs.Common.{arith, ◌≡◌, ℕ, List, Option, None, Result, inl, inr, map, refl, subst, sym}
-use Rattle.std.proofs.lemmas.Option.{IfSome_then}
+use Rattle.argon2_passwd.proofs.Common.{AccountFile, AddsEntries, arith, database_of, entries_in, FileError, Flaw, flaws_from, Ghosts, HasCause, HasFailedBy, HasNames, IfSome_then, inl, inr, IsClosed}
+use Rattle.argon2_passwd.proofs.Common.{IsHonest, Line, List, Looks, map, None, Option, quiet_then, refl, Result, Serves, Stays, subst, sym, Texts, unless_known, ℕ, ◌≡◌}
 use Rattle.sqlite_trees.specs.declared.error.StoreError.{StoreError}
-use Rattle.sqlite_trees.specs.declared.store.Store.{Ghosts}
-use Rattle.argon2_rows.proofs.TableLemmas.{quiet_then}
-use Rattle.argon2_rows.specs.Names.{Texts}
-use Rattle.argon2_rows.specs.Table.{IsHonest}
-use Rattle.argon2_store.specs.AccountFile.{HasCause, HasFailedBy, HasNames, IsClosed, Serves, Stays, database_of}
 use Rattle.argon2_store.specs.Edits.{additions}
-use Rattle.argon2_store.specs.declared.account_file.AccountFile.{AccountFile}
-use Rattle.argon2_store.specs.declared.error.FileError.{FileError}
-use Rattle.argon2_passwd.specs.Answers.{AddsEntries, Looks}
-use Rattle.argon2_passwd.specs.Lines.{Line, entries_in, flaws_from, unless_known}
-use Rattle.argon2_passwd.specs.declared.failure.Flaw.{Flaw}
 
 -- the same cause, of other facts
 caused : {closed shut : Type 0} {fault failed : StoreError → Type 0} (e : FileError) → (closed → shut)

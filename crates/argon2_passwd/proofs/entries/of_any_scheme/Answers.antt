@@ -1,8 +1,4 @@
-use Rattle.std.proofs.Common.{◌≡◌, ◌∙◌, ℕ, List, Option, Some, None, inr, ◌⊎◌, true, sym}
-use Rattle.std.specs.Prelude.{IsTrue, MatchOption}
-use Rattle.argon2_rows.specs.Locks.{IsLine, IsStored}
-use Rattle.argon2_rows.specs.declared.text.StoredText.{StoredText}
-use Rattle.argon2_passwd.specs.Lines.{IsForeign, has_scheme}
+use Rattle.argon2_passwd.proofs.Common.{has_scheme, inr, IsForeign, IsLine, IsStored, IsTrue, List, MatchOption, None, Option, Some, StoredText, sym, true, ℕ, ◌∙◌, ◌≡◌, ◌⊎◌}
 use Rattle.argon2_passwd.proofs.entries.of_any_scheme.Goals as goal
 
 -- a text outside the grammar that begins as one of another scheme is taken if it is one line

@@ -1,5 +1,4 @@
-use Rattle.std.proofs.Common.{arith}
-use Rattle.std.proofs.lemmas.Grind.{common_steps}
+use Rattle.argon2_passwd.proofs.Common.{arith, common_steps}
 use Rattle.argon2_passwd.proofs.lines.entries_and_flaws.Goals as goal
 
 pub loop-k-preserved : goal.loop-k-preserved

@@ -1,6 +1,4 @@
-use Rattle.std.proofs.Common.{map, ◌≡◌, ◌++◌, drop, suc}
-use Rattle.argon2_rows.specs.Names.{entry_of}
-use Rattle.argon2_passwd.specs.Lines.{entries_in, entry_or_flaw, flaws_from}
+use Rattle.argon2_passwd.proofs.Common.{drop, entries_in, entry_of, entry_or_flaw, flaws_from, map, suc, ◌++◌, ◌≡◌}
 use Rattle.argon2_passwd.proofs.lines.entries_and_flaws.Given as goal
 
 -- what is left makes the rest of the entries and of the flaws

@@ -1,21 +1,17 @@
-use Rattle.std.proofs.Common.{add-one, ◌≡◌, ◌∙◌, ◌||◌, ◌<◌, suc, ℕ, Bool, List, [], ◌∷◌, ◌++◌, Ok, Err, ap, drop, get_or, length, map, refl, sym}
-use Rattle.std.specs.List.{list_any}
-use Rattle.std.specs.Str.{bytes_eq}
-use Rattle.argon2_passwd.specs.Lines.{Line, entry_or_flaw, first_of_each, line_has_name, new_line, with_name}
+use Rattle.argon2_passwd.proofs.Common.{[], add-one, ap, arith, Bool, bytes_eq, drop, entry_or_flaw, first_of_each, get_or, length, Line, line_has_name, List, list_any, map, new_line, suc, sym}
+use Rattle.argon2_passwd.proofs.Common.{with_name, ℕ, ◌++◌, ◌<◌, ◌||◌, ◌∙◌, ◌∷◌, ◌≡◌}
 use Rattle.argon2_passwd.proofs.LineLemmas.{Own, map-push, next_line}
 use Rattle.argon2_passwd.proofs.lines.first_of_each.Goals as goal
 
 same_line : (line : Line) (p q : List ℕ → Bool) → ((name : List ℕ) → p name ≡ q name) → new_line p line ≡ new_line q line
-same_line (Ok e) p q same = rw (same e.0) refl
-same_line (Err why) p q same = refl
+same_line line p q same = grind (arith, same)
 
 abbrev has_any : List (List ℕ) → List ℕ → Bool
 has_any names name = list_any (λ other. bytes_eq other name) names
 
 joined : (line : Line) (names : List (List ℕ)) (old new : List ℕ → Bool) → ((name : List ℕ) → old name ≡ has_any names name)
     → ((name : List ℕ) → new name ≡ (line_has_name line name || old name)) → (name : List ℕ) → new name ≡ has_any (with_name line names) name
-joined (Ok e) names old new has is name = is name ∙ ap (λ b. bytes_eq e.0 name || b) (has name)
-joined (Err why) names old new has is name = is name ∙ has name
+joined line names old new has is name = grind (arith, has name, is name)
 
 step : (names : List (List ℕ)) (ls found : List Own) (k : ℕ) (x y : Own) (old : List ℕ → Bool) (all : List Line) → k < length ls
     → x ≡ get_or ls k x → ((name : List ℕ) → old name ≡ has_any names name) → entry_or_flaw y ≡ new_line old (entry_or_flaw x)

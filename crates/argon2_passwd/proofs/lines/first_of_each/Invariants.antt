@@ -1,7 +1,4 @@
-use Rattle.std.proofs.Common.{map, ◌≡◌, ℕ, List, [], ◌++◌, drop}
-use Rattle.std.specs.List.{list_any}
-use Rattle.std.specs.Str.{bytes_eq}
-use Rattle.argon2_passwd.specs.Lines.{entry_or_flaw, first_of_each, has_name}
+use Rattle.argon2_passwd.proofs.Common.{[], bytes_eq, drop, entry_or_flaw, first_of_each, has_name, List, list_any, map, ℕ, ◌++◌, ◌≡◌}
 use Rattle.argon2_passwd.proofs.lines.first_of_each.Given as goal
 
 -- the set has the names so far, and what is left makes the rest

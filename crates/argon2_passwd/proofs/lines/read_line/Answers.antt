@@ -1,6 +1,5 @@
-use Rattle.std.proofs.Common.{◌∙◌, ℕ, List, ap, subst, sym}
+use Rattle.argon2_passwd.proofs.Common.{ap, arith, IsTaken, List, subst, sym, ℕ, ◌∙◌}
 use Rattle.argon2_programs.specs.Prefixes.{without_prefix}
-use Rattle.argon2_passwd.specs.Lines.{IsTaken}
 use Rattle.argon2_passwd.proofs.lines.read_line.Goals as goal
 
 pub returns-in-Some : goal.returns-in-Some
@@ -10,11 +9,4 @@ returns-in-Some c =
     (subst (IsTaken c.args.any_text) text c.in-Some.ensures.1, rw (← name) (sym c.has_control.ensures ∙ c.if-has_control.true))
 
 pub returns-in-Some-2 : goal.returns-in-Some-2
-returns-in-Some-2 c =
-    let text = c.bare_str.ensures ∙ ap (λ (e : List ℕ × List ℕ). without_prefix e.1) c.parts.ensures in
-    let found = c.in-Some.ensures in (
-      ap (λ (e : List ℕ × List ℕ). e.0) c.parts.ensures,
-      found.0 ∙ text,
-      subst (IsTaken c.args.any_text) (sym found.0) found.1,
-      sym c.has_control.ensures ∙ c.if-has_control.false,
-    )
+returns-in-Some-2 c = grind arith

@@ -1,8 +1,5 @@
-use Rattle.std.proofs.Common.{arith, rules, ◌==◌, [], ◌∷◌, append-nil, subst, sym}
+use Rattle.argon2_passwd.proofs.Common.{[], AllZip, append-nil, arith, entry_or_flaw, IsEntryOrFlaw, lines, rules, subst, sym, unmarked, ◌==◌, ◌∷◌}
 use Rattle.std.proofs.lemmas.List.Sorted.{answers_always}
-use Rattle.std.specs.List.{AllZip}
-use Rattle.std.specs.Str.Lines.{lines}
-use Rattle.argon2_passwd.specs.Lines.{IsEntryOrFlaw, entry_or_flaw, unmarked}
 use Rattle.argon2_passwd.proofs.LineLemmas.{lines_first, map-push, none_left}
 use Rattle.argon2_passwd.proofs.lines.read_lines.Goals as goal
 

@@ -1,8 +1,5 @@
-use Rattle.std.proofs.Common.{map, List, ◌++◌}
-use Rattle.std.specs.List.{AllZip}
+use Rattle.argon2_passwd.proofs.Common.{AllZip, entry_or_flaw, IsEntryOrFlaw, Line, lines, List, map, unmarked, ◌++◌}
 use Rattle.std.specs.Slice.Iter.{split_inclusive_rest}
-use Rattle.std.specs.Str.Lines.{lines}
-use Rattle.argon2_passwd.specs.Lines.{IsEntryOrFlaw, Line, entry_or_flaw, unmarked}
 use Rattle.argon2_passwd.proofs.lines.read_lines.Given as goal
 
 -- what is left says what all lines lack

@@ -1,11 +1,10 @@
-use Rattle.std.proofs.Common.{inl, inr}
-use Rattle.argon2_passwd.proofs.Served.{err_is, keeps_same}
+use Rattle.argon2_passwd.proofs.Common.{err_is, inl, inr, keeps_same}
 use Rattle.argon2_passwd.proofs.run.answer.Goals as goal
 
 pub returns-in_err-policy : goal.returns-in_err-policy
 returns-in_err-policy g c =
     let f = c.in_err-policy.field-0.0 in
-    rw (err_is c.from_residual-in_err-policy.result f c.from_residual-in_err-policy.ensures.1)
+    rw (err_is _ _ c.from_residual-in_err-policy.ensures.1)
     (elim c.in_err-policy.ensures.err [
       | inl three ↦ inl (c.requires, three, keeps_same _)
       | inr (is, unsound) ↦

@@ -1,13 +1,11 @@
-use Rattle.std.proofs.Common.{◌∙◌, inr}
-use Rattle.argon2_base.specs.PhcFields.{phc_of}
-use Rattle.argon2_passwd.proofs.Served.{err_is, found_as, keeps_same}
+use Rattle.argon2_passwd.proofs.Common.{err_is, found_as, inr, keeps_same, phc_of, ◌∙◌}
 use Rattle.argon2_passwd.proofs.run.check.Goals as goal
 
 pub returns-in_err-accepted : goal.returns-in_err-accepted
 returns-in_err-accepted g c =
     let read = c.in_ok-password in
     let denied = rw c.as_slice.ensures.value at c.in_err-accepted.ensures.err in
-    rw (err_is c.from_residual-in_err-accepted.result c.in_err-accepted.field-0.0 c.from_residual-in_err-accepted.ensures.1)
+    rw (err_is _ _ c.from_residual-in_err-accepted.ensures.1)
     ((λ isnt. inr (read.password.items, read.ensures.found, denied)), inr (keeps_same _))
 
 pub returns : goal.returns

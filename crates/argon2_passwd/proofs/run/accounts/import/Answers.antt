@@ -1,10 +1,6 @@
-use Rattle.std.proofs.Common.{arith, ◌≡◌, ℕ, Bor, List, [], ◌∷◌, Option, None, Some, inl, inr, map, refl, sym, ◌∙◌}
-use Rattle.std.specs.List.{slice_get}
-use Rattle.std.specs.Option.{option_copied}
-use Rattle.argon2_passwd.specs.Lines.{IsOfFirst, entry_or_flaw}
-use Rattle.argon2_passwd.specs.declared.failure.Flaw.{Flaw}
+use Rattle.argon2_passwd.proofs.Common.{[], arith, Bor, entry_or_flaw, Flaw, inl, inr, IsOfFirst, keeps_same, List, map, None, opened_for, Option, option_copied, refl, said_of, slice_get, Some, sym}
+use Rattle.argon2_passwd.proofs.Common.{ℕ, ◌∙◌, ◌∷◌, ◌≡◌}
 use Rattle.argon2_passwd.specs.declared.failure.Failure.TheVariants.{Line}
-use Rattle.argon2_passwd.proofs.Served.{keeps_same, opened_for, said_of}
 use Rattle.argon2_passwd.proofs.run.accounts.import.Goals as goal
 
 of_first : (flaws : List (ℕ × Flaw)) (r : Option (Bor (ℕ × Flaw))) (first : Bor (ℕ × Flaw)) → option_copied r ≡ slice_get flaws 0

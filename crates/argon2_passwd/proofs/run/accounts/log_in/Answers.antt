@@ -1,12 +1,7 @@
-use Rattle.std.proofs.Common.{arith, ◌≡◌, Option, Some, None, Ok, Err, ap, inl, inr, refl}
-use Rattle.std.specs.Prelude.{◌↔◌, IsSome}
-use Rattle.argon2_base.specs.PhcFields.{phc_of}
+use Rattle.argon2_passwd.proofs.Common.{answer_without_text, ap, arith, Err, err_from_is_err_and, err_is, inl, inr, IsSome, None, Ok, opened_for, Option, phc_of, refl, Some, unfound_then, ◌↔◌, ◌≡◌}
 use Rattle.argon2_base.specs.declared.phc.hash.PasswordHash.{PasswordHash}
 use Rattle.argon2.specs.declared.login.answers.Accepted.{Accepted}
 use Rattle.argon2.specs.declared.login.answers.Accepted.TheVariants.{Kept, Rehashed}
-use Rattle.argon2_passwd.specs.Answers.{answer_without_text}
-use Rattle.argon2_passwd.specs.Failures.{IsOfBound}
-use Rattle.argon2_passwd.proofs.Served.{err_is, opened_for, some_error, unfound_then}
 use Rattle.argon2_passwd.proofs.run.accounts.log_in.Goals as goal
 
 -- a login without a fresh text has nothing to write
@@ -20,7 +15,7 @@ renewed did fresh text some is = grind arith
 
 pub returns-in_err-text : goal.returns-in_err-text
 returns-in_err-text g c =
-    rw (err_is c.from_residual.result c.in_err-text.field-0.0 c.from_residual.ensures.1)
+    rw (err_is _ _ c.from_residual.ensures.1)
     (elim c.in_err-text.ensures [
       | inl missing ↦ inl (inl (unfound_then _ (g.P.Outside.closed c.look.new.outside) missing))
       | inr untouched ↦ inr untouched
@@ -30,7 +25,7 @@ pub returns-in_err-accepted : goal.returns-in_err-accepted
 returns-in_err-accepted g c =
     let (says, looked) = c.in_ok-text.ensures in
     let e = c.in_err-accepted.field-0.0 in
-    let (f, is, of) = some_error (IsOfBound e) c.from_residual-in_err-accepted.result c.from_residual-in_err-accepted.ensures.1 in
+    let (f, is, of) = err_from_is_err_and c.from_residual-in_err-accepted.result c.from_residual-in_err-accepted.ensures.1 in
     rw is (inl (inl (inl (Some _, inr (phc_of c.in_ok-text.hash, e, says, c.in_err-accepted.ensures.step, of), looked))))
 
 pub returns-in_default : goal.returns-in_default

@@ -1,16 +1,6 @@
-use Rattle.std.proofs.Common.{◌≡◌, ℕ, List, [], Option, None, Some, Result, Ok, Err, inl, inr}
+use Rattle.argon2_passwd.proofs.Common.{[], AccountFile, database_of, Err, err_from_is_err_and, FileError, Ghosts, HasNames, IfOk, inl, inr, IsHonest, IsLooked, IsOpened, List, None, Ok, opened_for}
+use Rattle.argon2_passwd.proofs.Common.{Option, option_map, Reads, Result, Some, String, string_bytes, Texts, ℕ, ◌≡◌}
 use Rattle.std.specs.FinMap.{get}
-use Rattle.std.specs.Option.{option_map}
-use Rattle.std.specs.Prelude.{String, string_bytes, IfOk}
-use Rattle.sqlite_trees.specs.declared.store.Store.{Ghosts}
-use Rattle.argon2_rows.specs.Names.{Texts}
-use Rattle.argon2_rows.specs.Table.{IsHonest}
-use Rattle.argon2_store.specs.AccountFile.{HasNames, Reads, database_of}
-use Rattle.argon2_store.specs.declared.account_file.AccountFile.{AccountFile}
-use Rattle.argon2_store.specs.declared.error.FileError.{FileError}
-use Rattle.argon2_passwd.specs.Answers.{IsLooked, IsOpened}
-use Rattle.argon2_passwd.specs.Failures.{IsOfFile}
-use Rattle.argon2_passwd.proofs.Served.{opened_for, some_error}
 use Rattle.argon2_passwd.proofs.run.accounts.look.Goals as goal
 
 module _ {S Y : Type 0} {g : Ghosts S} {Has : List ℕ → Texts → Type 0} {path : List ℕ} {Next : S → Type 0} (name : List ℕ)
@@ -29,7 +19,7 @@ pub returns-in_err-text : goal.returns-in_err-text
 returns-in_err-text g c =
     let found = c.text_of-found.ensures in
     let closed = rw c.into_store.ensures at c.close.ensures [] (c.in_ok-accounts.ensures.opened [] c.requires) in
-    let (f, is, of) = some_error (IsOfFile c.in_err-text.field-0.0) c.from_residual-in_err-text.result c.from_residual-in_err-text.ensures.1 in
+    let (f, is, of) = err_from_is_err_and c.from_residual-in_err-text.result c.from_residual-in_err-text.ensures.1 in
     rw is (inl (inr (
       c.in_err-text.field-0.0,
       of,

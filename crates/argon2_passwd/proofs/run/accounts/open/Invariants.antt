@@ -1,4 +1,4 @@
-use Rattle.std.specs.Prelude.{List}
+use Rattle.argon2_passwd.proofs.Common.{List}
 use Rattle.argon2_passwd.proofs.run.accounts.open.Given as goal
 
 abbrev pub invariant-loop : goal.invariant-loop

@@ -1,10 +1,9 @@
-use Rattle.std.proofs.Common.{inr}
-use Rattle.argon2_passwd.proofs.Served.{err_is, keeps_same}
+use Rattle.argon2_passwd.proofs.Common.{err_is, inr, keeps_same}
 use Rattle.argon2_passwd.proofs.run.accounts.serve.Goals as goal
 
 pub returns-in_err-look-in-OnFile : goal.returns-in_err-look-in-OnFile
 returns-in_err-look-in-OnFile g c =
-    rw (c.in-OnFile.is, err_is c.from_residual.result c.in_err-look-in-OnFile.field-0.0 c.from_residual.ensures.1)
+    rw (c.in-OnFile.is, err_is _ _ c.from_residual.ensures.1)
     (inr (c.requires, ((λ isnt. absurd (isnt c.in_err-look-in-OnFile.ensures)), inr (keeps_same _))))
 
 pub returns-in-Check : goal.returns-in-Check

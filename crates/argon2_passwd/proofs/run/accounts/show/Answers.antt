@@ -1,6 +1,4 @@
-use Rattle.std.proofs.Common.{[], Ok, Err, inl, refl}
-use Rattle.argon2_passwd.specs.Failures.{IsOfLines}
-use Rattle.argon2_passwd.proofs.Served.{opened_for, some_error}
+use Rattle.argon2_passwd.proofs.Common.{[], Err, err_from_is_err_and, inl, Ok, opened_for, refl}
 use Rattle.argon2_passwd.proofs.run.accounts.show.Goals as goal
 
 pub returns-in_err-written : goal.returns-in_err-written
@@ -9,7 +7,7 @@ returns-in_err-written g c input =
     let shows = rw c.in_err-written.was at c.write_lines-written.ensures.shows in
     let closed = rw c.into_store.ensures at c.close.ensures [] (c.in_ok-accounts.ensures.opened [] c.requires) in
     let e = c.in_err-written.field-0.0 in
-    let (f, is, of) = some_error (IsOfLines e) c.from_residual-in_err-written.result c.from_residual-in_err-written.ensures.1 in
+    let (f, is, of) = err_from_is_err_and c.from_residual-in_err-written.result c.from_residual-in_err-written.ensures.1 in
     rw is (inl (
       Err e,
       of,

@@ -1,6 +1,4 @@
-use Rattle.std.proofs.Common.{◌∙◌, refl, sym}
-use Rattle.argon2_store.specs.declared.error.FileError.TheVariants.{Damaged}
-use Rattle.argon2_passwd.proofs.Served.{no_refusal}
+use Rattle.argon2_passwd.proofs.Common.{Damaged, no_refusal, refl, sym, ◌∙◌}
 use Rattle.argon2_passwd.proofs.run.others.add_new.Goals as goal
 
 pub returns-then-is_refusal-clause-err : goal.returns-then-is_refusal-clause-err

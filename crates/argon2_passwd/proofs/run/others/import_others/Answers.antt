@@ -1,6 +1,4 @@
-use Rattle.std.proofs.Common.{[], map, inl}
-use Rattle.argon2_passwd.specs.Lines.{entry_or_flaw}
-use Rattle.argon2_passwd.proofs.Served.{keeps_same, opened_for, said_of}
+use Rattle.argon2_passwd.proofs.Common.{[], entry_or_flaw, inl, keeps_same, map, opened_for, said_of}
 use Rattle.argon2_passwd.proofs.run.others.import_others.Goals as goal
 
 pub returns : goal.returns

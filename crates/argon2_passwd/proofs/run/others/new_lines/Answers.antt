@@ -1,10 +1,7 @@
-use Rattle.std.proofs.Common.{add-one, ◌≡◌, ◌∙◌, ◌<◌, suc, ℕ, List, [], ◌∷◌, ◌++◌, ap, drop, get_or, length, map, sym}
-use Rattle.std.specs.Prelude.{None, Some}
-use Rattle.argon2_passwd.specs.Lines.{Line, entry_or_flaw, unless_known}
-use Rattle.argon2_passwd.specs.Failures.{IsMemory, IsOfFile}
+use Rattle.argon2_passwd.proofs.Common.{[], add-one, ap, drop, entry_or_flaw, err_from_is_err_and, get_or, length, Line, List, map, memory_is, no_refusal, None, Some, suc, sym, unless_known, ℕ, ◌++◌}
+use Rattle.argon2_passwd.proofs.Common.{◌<◌, ◌∙◌, ◌∷◌, ◌≡◌}
 use Rattle.argon2_passwd.proofs.LineLemmas.{Own, map-push, next_line}
 use Rattle.argon2_passwd.proofs.Looks.{looks_then, names_stay, was_honest}
-use Rattle.argon2_passwd.proofs.Served.{memory_is, no_refusal, some_error}
 use Rattle.argon2_passwd.proofs.run.others.new_lines.Goals as goal
 
 -- the next of the lines
@@ -18,12 +15,12 @@ step f ls found k x y all within is said sofar =
 pub returns-in_err-unless_known-clause-fails : goal.returns-in_err-unless_known-clause-fails
 returns-in_err-unless_known-clause-fails g c =
     let e = c.in_err-unless_known.field-0.0 in
-    let (f, is, of) = some_error (IsOfFile e) c.from_residual.result c.from_residual.ensures.1 in
+    let (f, is, of) = err_from_is_err_and c.from_residual.result c.from_residual.ensures.1 in
     rw is (no_refusal e f of c.in_err-unless_known.ensures.error, Some e, looks_then (Some e) _ _ _ c.loop-line.invariant.0 c.in_err-unless_known.ensures.looks)
 
 pub returns-in_err-push-clause-fails : goal.returns-in_err-push-clause-fails
 returns-in_err-push-clause-fails g c =
-    let (f, is, of) = some_error IsMemory c.from_residual-in_err-push.result c.from_residual-in_err-push.ensures.1 in
+    let (f, is, of) = err_from_is_err_and c.from_residual-in_err-push.result c.from_residual-in_err-push.ensures.1 in
     rw is (memory_is f of, None, looks_then None _ _ _ c.loop-line.invariant.0 c.in_ok-unless_known.ensures.looks)
 
 pub loop-line-preserved : goal.loop-line-preserved

@@ -1,10 +1,4 @@
-use Rattle.std.proofs.Common.{map, ◌≡◌, ◌++◌, drop}
-use Rattle.argon2_rows.specs.Names.{Texts}
-use Rattle.argon2_rows.specs.Table.{IsHonest}
-use Rattle.argon2_store.specs.AccountFile.{HasNames, database_of}
-use Rattle.std.specs.Prelude.{None}
-use Rattle.argon2_passwd.specs.Answers.{Looks}
-use Rattle.argon2_passwd.specs.Lines.{entry_or_flaw, unless_known}
+use Rattle.argon2_passwd.proofs.Common.{database_of, drop, entry_or_flaw, HasNames, IsHonest, Looks, map, None, Texts, unless_known, ◌++◌, ◌≡◌}
 use Rattle.argon2_passwd.proofs.run.others.new_lines.Given as goal
 
 -- names were looked up, and what is left makes the rest of the lines

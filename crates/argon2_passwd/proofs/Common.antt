@@ -1,0 +1,86 @@
+-- What the proofs of this crate share: words, and how what is asked for ended, by how a call for it ended.
+pub use Rattle.std.proofs.Common.{[], add-one, ap, append-nil, append_assoc, arith, Bool, Bor, drop, drop-cons, Err, false, get_or, inl, inr, length, List, lit<, map, min, None, Ok, Option, refl}
+pub use Rattle.std.proofs.Common.{Result, rules, Some, subst, suc, sym, take, true, ℕ, ⊎_elim, ◌++◌, ◌+◌, ◌<◌, ◌==◌, ◌||◌, ◌∙◌, ◌∷◌, ◌≡◌, ◌⊎◌}
+pub use Rattle.std.proofs.lemmas.Option.{IfSome_then}
+pub use Rattle.std.specs.Io.BufRead.{drop_through, DropsThrough, strip_last}
+pub use Rattle.std.specs.Io.KnownBytes.{Appends, Keeps, WriteAppends}
+pub use Rattle.std.specs.Prelude.{All, IfOk, IfSome, IsSome, IsTrue, MatchOption, String, string_bytes, ◌↔◌}
+pub use Rattle.sqlite_trees.specs.declared.store.Store.{Ghosts}
+use Rattle.argon2_base.specs.PhcText.{Phc}
+use Rattle.argon2.specs.declared.bound.BoundError.{BoundError}
+pub use Rattle.argon2_rows.specs.Names.{entry_of, Texts}
+pub use Rattle.argon2_rows.proofs.TableLemmas.{err_is, quiet_then}
+pub use Rattle.std.proofs.lemmas.Result.{err_from_is_err_and}
+pub use Rattle.argon2_store.specs.AccountFile.{database_of, HasCause, HasFailedBy, HasNames, IsClosed, Reads, Serves, Stays}
+use Rattle.argon2_store.specs.Errors.{is_refusal}
+pub use Rattle.argon2_store.specs.declared.account_file.AccountFile.{AccountFile}
+pub use Rattle.argon2_store.specs.declared.error.FileError.{FileError}
+pub use Rattle.argon2_passwd.specs.Answers.{AddsEntries, answer_without_text, behind, IsDenied, IsLooked, IsOpened, IsOpenFor, IsUnfound, Looks, OfPassword}
+pub use Rattle.argon2_passwd.specs.Lines.{AreSaid, entries_in, entry_or_flaw, first_of_each, flaws_from, has_name, has_scheme, IsEntryOrFlaw, IsForeign, IsOfFirst, IsTaken, Line, line_has_name}
+pub use Rattle.argon2_passwd.specs.Lines.{new_line, parts_now, unless_known, unmarked, with_name}
+pub use Rattle.argon2_passwd.specs.Passwords.{line_of, password_of}
+use Rattle.argon2_passwd.specs.Failures.{IsMemory, IsOfFile, status_of}
+use Rattle.argon2_passwd.specs.declared.failure.Failure.{Failure}
+pub use Rattle.argon2_base.specs.PhcFields.{phc_of}
+pub use Rattle.argon2_passwd.specs.declared.failure.Flaw.{Flaw}
+pub use Rattle.argon2_programs.specs.Schemes.{scheme_of}
+pub use Rattle.argon2_rows.specs.Locks.{behind_lock, is_locked, IsLine, IsStored, without_lock}
+pub use Rattle.argon2_rows.specs.Table.{IsHonest}
+pub use Rattle.argon2_rows.specs.declared.text.StoredText.{StoredText}
+pub use Rattle.argon2_store.specs.declared.error.FileError.TheVariants.{Damaged, NameTaken}
+pub use Rattle.std.proofs.lemmas.Grind.{common_steps}
+pub use Rattle.std.specs.List.{after_first, AllZip, before_first, IsFirstMatchOrLen, list_any, slice_get, slice_split}
+pub use Rattle.std.specs.Option.{is_some, option_copied, option_map, unwrap_or}
+pub use Rattle.std.specs.Str.{bytes_eq, is_utf8}
+pub use Rattle.std.specs.Str.Lines.{lines, lines_of_parts, strip_carriage_return}
+
+pub keeps_same : (known : Option (List ℕ)) → Keeps known known
+keeps_same known = grind arith
+
+-- a password that is read, by its bytes
+pub found_as : (input : Option (List ℕ)) {p q : List ℕ} → p ≡ q → IfSome input (λ bytes. password_of bytes ≡ Some q)
+    → IfSome input (λ bytes. password_of bytes ≡ Some p)
+found_as input same found = subst (λ p. IfSome input (λ bytes. password_of bytes ≡ Some p)) (sym same) found
+
+-- the password behind the first line, by its bytes
+pub behind_as : (input rest : Option (List ℕ)) {p q : List ℕ} → p ≡ q → DropsThrough input rest 10
+    → IfSome rest (λ bytes. password_of bytes ≡ Some q) → IfSome (behind input) (λ bytes. password_of bytes ≡ Some p)
+behind_as None rest same drops found = tt
+behind_as (Some bytes) rest same drops found = found_as (Some (drop_through 10 bytes)) same (rw drops at found)
+
+-- a fact of two passwords, the first lines
+pub of_two : {P : List ℕ → List ℕ → Type 0} (input rest : Option (List ℕ)) {first second p q : List ℕ} → first ≡ p → second ≡ q
+    → DropsThrough input rest 10 → IfSome input (λ bytes. password_of bytes ≡ Some p) → IfSome rest (λ bytes. password_of bytes ≡ Some q)
+    → P first second → OfPassword (λ a. OfPassword (P a) (behind input)) input
+of_two input rest same other drops found next it = (_, found_as input same found, (_, behind_as input rest other drops next, it))
+
+-- what the lines of the bytes that are read say
+pub said_of : (input : Option (List ℕ)) (any_text : Bool) (read : List ℕ) (said : List Line) → IfSome input (λ known. read ≡ known)
+    → AreSaid any_text read said → IfSome input (λ bytes. AreSaid any_text bytes said)
+said_of input any_text read said same are =
+    IfSome_then input same (λ known all. subst (λ bytes. AreSaid any_text bytes said) all are)
+
+-- out of memory is no refusal
+pub memory_is : (f : Failure) → IsMemory f → status_of f ≡ 3
+memory_is f memory = grind arith
+
+-- nor is an error of the file
+pub no_refusal : (e : FileError) (f : Failure) → IsOfFile e f → is_refusal e ≡ false → status_of f ≡ 3
+no_refusal e f is file = grind arith
+
+denied_then : (Why : Phc → BoundError → Type 0) (o : Option (List ℕ)) (f : Failure) → IsDenied (λ v e. ⊥) o f → IsDenied Why o f
+denied_then Why o f is = grind arith
+
+module _ {S : Type 0} {g : Ghosts S} {Has : List ℕ → Texts → Type 0} where
+  -- a file was opened, used so and closed
+  pub opened_for : {path : List ℕ} {Does : AccountFile S g → AccountFile S g → Type 0} {Next : S → Type 0}
+      (before after : AccountFile S g) → IsOpened Has path before → Does before after → Next (database_of after)
+      → IsOpenFor g Has path Does Next
+  opened_for before after opened does next =
+      record { before = before; after = after; opened = opened; does = does; next = next }
+
+  -- what refuses a call refuses it for whatever reason a value may be refused
+  pub unfound_then : {Why : Phc → BoundError → Type 0} {path : List ℕ} (name : List ℕ) (Closed : List S → Type 0) {f : Failure}
+      → IsUnfound g Has (λ v e. ⊥) path name Closed f → IsUnfound g Has Why path name Closed f
+  unfound_then {Why} name Closed {f} (inl (o, why, looked)) = inl (o, denied_then Why o f why, looked)
+  unfound_then name Closed (inr failed) = inr failed
