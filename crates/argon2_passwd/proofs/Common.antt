@@ -48,11 +48,12 @@ pub behind_as : (input rest : Option (List ℕ)) {p q : List ℕ} → p ≡ q �
 behind_as None rest same drops found = tt
 behind_as (Some bytes) rest same drops found = found_as (Some (drop_through 10 bytes)) same (rw drops at found)
 
--- a fact of two passwords, the first lines
-pub of_two : {P : List ℕ → List ℕ → Type 0} (input rest : Option (List ℕ)) {first second p q : List ℕ} → first ≡ p → second ≡ q
+-- a fact of two passwords, the first lines, by which nothing is written
+pub of_two : {P : List ℕ → List ℕ → Type 0} (output input rest : Option (List ℕ)) {first second p q : List ℕ} → first ≡ p → second ≡ q
     → DropsThrough input rest 10 → IfSome input (λ bytes. password_of bytes ≡ Some p) → IfSome rest (λ bytes. password_of bytes ≡ Some q)
-    → P first second → OfPassword (λ a. OfPassword (P a) (behind input)) input
-of_two input rest same other drops found next it = (_, found_as input same found, (_, behind_as input rest other drops next, it))
+    → P first second → Keeps output output × OfPassword (λ a. OfPassword (P a) (behind input)) input
+of_two output input rest same other drops found next it =
+    (keeps_same output, (_, found_as input same found, (_, behind_as input rest other drops next, it)))
 
 -- what the lines of the bytes that are read say
 pub said_of : (input : Option (List ℕ)) (any_text : Bool) (read : List ℕ) (said : List Line) → IfSome input (λ known. read ≡ known)
@@ -78,6 +79,11 @@ module _ {S : Type 0} {g : Ghosts S} {Has : List ℕ → Texts → Type 0} where
       → IsOpenFor g Has path Does Next
   opened_for before after opened does next =
       record { before = before; after = after; opened = opened; does = does; next = next }
+
+  -- and what is so then
+  pub looked_then : {path : List ℕ} {Does : AccountFile S g → AccountFile S g → Type 0} {Next After : S → Type 0}
+      (looked : IsOpenFor g Has path Does Next) → After (database_of looked.after) → IsOpenFor g Has path Does After
+  looked_then looked next = opened_for looked.before looked.after looked.opened looked.does next
 
   -- what refuses a call refuses it for whatever reason a value may be refused
   pub unfound_then : {Why : Phc → BoundError → Type 0} {path : List ℕ} (name : List ℕ) (Closed : List S → Type 0) {f : Failure}

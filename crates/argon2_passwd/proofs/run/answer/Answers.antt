@@ -3,7 +3,6 @@ use Rattle.argon2_passwd.proofs.run.answer.Goals as goal
 
 pub returns-in_err-policy : goal.returns-in_err-policy
 returns-in_err-policy g c =
-    let f = c.in_err-policy.field-0.0 in
     rw (err_is _ _ c.from_residual-in_err-policy.ensures.1)
     (elim c.in_err-policy.ensures.err [
       | inl three ↦ inl (c.requires, three, keeps_same _)
@@ -12,10 +11,5 @@ returns-in_err-policy g c =
     ])
 
 pub returns : goal.returns
-returns g c = inr (
-  _,
-  _,
-  c.in_ok-current.ensures.ok,
-  c.in_ok-old.ensures.ok,
-  rw (← c.in_ok-policy.ensures.ok) (inr c.serve.ensures),
-)
+returns g c =
+    inr (_, _, c.in_ok-current.ensures.ok, c.in_ok-old.ensures.ok, rw (← c.in_ok-policy.ensures.ok) (inr c.serve.ensures))

@@ -12,17 +12,5 @@ pub returns : goal.returns
 returns g c =
     let found = found_as (g.R.Read.remaining c.args.input.now) c.as_slice.ensures.value c.in_ok-password.ensures.found in
     let (v, says, logs_in) = c.in_ok-accepted.ensures.ok in
-    let line = c.as_bytes.ensures.value ∙ c.as_str.ensures.value ∙ c.in_ok-reply.ensures in (
-      _,
-      found,
-      (
-        _,
-        v,
-        c.in_ok-accepted.accepted,
-        phc_of c.in_ok-accepted.hash,
-        c.in_ok-rng.ensures.salt,
-        says,
-        logs_in,
-        (rw line at c.in_ok-write_line.ensures),
-      ),
-    )
+    let said = rw (c.as_bytes.ensures.value ∙ c.as_str.ensures.value ∙ c.in_ok-reply.ensures) at c.in_ok-write_line.ensures in
+    (_, found, (_, v, c.in_ok-accepted.accepted, phc_of c.in_ok-accepted.hash, c.in_ok-rng.ensures.salt, says, logs_in, said))

@@ -17,17 +17,8 @@ returns-in-Some g c output =
     let lines = said_of (g.R.Read.remaining c.args.input.now) c.args.any_text c.in_ok-bytes.bytes.items said
     c.in_ok-bytes.ensures.ok (rw c.as_slice.ensures.value at c.in_ok-lines.ensures) in
     let split = rw c.as_slice-2.ensures.value at c.in_ok-entries.ensures in
-    inr (
-      c.requires,
-      (
-        λ isnt. (
-          said,
-          lines,
-          rw (← split.1) (of_first _ c.first.result _ (rw c.deref.ensures.value at c.first.ensures.value) c.in-Some.is),
-        ),
-        inr (keeps_same _),
-      ),
-    )
+    let first = rw c.deref.ensures.value at c.first.ensures.value in
+    inr (c.requires, ((λ isnt. (said, lines, rw (← split.1) (of_first _ c.first.result _ first c.in-Some.is))), inr (keeps_same _)))
 
 pub returns : goal.returns
 returns g c output =
@@ -38,7 +29,4 @@ returns g c output =
     let none = no_first _ c.first.result (rw c.deref.ensures.value at c.first.ensures.value) c.in_default.is in
     let adds = rw (c.as_slice-3.ensures.value, split.0) at c.add_all-added.ensures in
     let closed = rw c.into_store.ensures at c.close.ensures [] (c.in_ok-accounts.ensures.opened [] c.requires) in
-    inl (
-      keeps_same _,
-      (said, lines, (sym split.1 ∙ none, opened_for _ _ c.in_ok-accounts.ensures.ok adds closed)),
-    )
+    inl (keeps_same _, (said, lines, (sym split.1 ∙ none, opened_for _ _ c.in_ok-accounts.ensures.ok adds closed)))

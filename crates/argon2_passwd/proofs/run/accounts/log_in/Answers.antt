@@ -1,4 +1,4 @@
-use Rattle.argon2_passwd.proofs.Common.{answer_without_text, ap, arith, Err, err_from_is_err_and, err_is, inl, inr, IsSome, None, Ok, opened_for, Option, phc_of, refl, Some, unfound_then, ◌↔◌, ◌≡◌}
+use Rattle.argon2_passwd.proofs.Common.{answer_without_text, ap, arith, Err, err_from_is_err_and, err_is, inl, inr, IsSome, None, Ok, looked_then, Option, phc_of, refl, Some, unfound_then, ◌↔◌, ◌≡◌}
 use Rattle.argon2_base.specs.declared.phc.hash.PasswordHash.{PasswordHash}
 use Rattle.argon2.specs.declared.login.answers.Accepted.{Accepted}
 use Rattle.argon2.specs.declared.login.answers.Accepted.TheVariants.{Kept, Rehashed}
@@ -31,57 +31,25 @@ returns-in_err-accepted g c =
 pub returns-in_default : goal.returns-in_default
 returns-in_default g c =
     let (says, looked) = c.in_ok-text.ensures in
-    let v = phc_of c.in_ok-text.hash in
     let same = not_renewed c.in_ok-accepted.field-0.accepted _ c.in_default.is c.in_ok-accepted.ensures.fresh in
-    inl (inr (
-      _,
-      _,
-      v,
-      v,
-      _,
-      c.requires.salt,
-      says,
-      (rw c.in_default.is at c.in_ok-accepted.ensures.step),
-      opened_for looked.before looked.after looked.opened looked.does (inl (ap Ok same, looked.next)),
-    ))
+    let logs_in = rw c.in_default.is at c.in_ok-accepted.ensures.step in
+    inl (inr (_, _, _, _, _, c.requires.salt, says, logs_in, looked_then looked (inl (ap Ok same, looked.next))))
 
 pub returns-in-Ok : goal.returns-in-Ok
 returns-in-Ok g c =
     let (says, looked) = c.in_ok-text.ensures in
     let logs_in = rw c.in-Some.is at c.in_ok-accepted.ensures.step in
-    inl (inr (
-      _,
-      _,
-      phc_of c.in_ok-text.hash,
-      phc_of c.in-Some.fresh,
-      _,
-      c.requires.salt,
-      says,
-      logs_in,
-      opened_for looked.before looked.after looked.opened looked.does
-          (elim (rw (c.in-Ok.is, c.as_str.ensures.value) at c.call.ensures _ looked.next) [
-            | inl applied ↦ inr (Ok tt, refl, applied)
-            | inr (shut, never) ↦ absurd never
-          ]),
-    ))
+    elim (rw (c.in-Ok.is, c.as_str.ensures.value) at c.call.ensures _ looked.next) [
+      | inl applied ↦ inl (inr (_, _, _, _, _, c.requires.salt, says, logs_in, looked_then looked (inr (Ok tt, refl, applied))))
+      | inr (shut, never) ↦ absurd never
+    ]
 
 pub returns : goal.returns
 returns g c =
     let (says, looked) = c.in_ok-text.ensures in
     let logs_in = rw c.in-Some.is at c.in_ok-accepted.ensures.step in
     let kept = ap Ok (renewed c.in_ok-accepted.field-0.accepted _ _ c.in-Some.is c.in_ok-accepted.ensures.fresh) in
-    inl (inr (
-      _,
-      _,
-      phc_of c.in_ok-text.hash,
-      phc_of c.in-Some.fresh,
-      _,
-      c.requires.salt,
-      says,
-      logs_in,
-      opened_for looked.before looked.after looked.opened looked.does
-          (elim (rw (c.in-Err.is, c.as_str.ensures.value) at c.call.ensures _ looked.next) [
-            | inl applied ↦ inr (Err _, kept, applied)
-            | inr (shut, three) ↦ inl (kept, shut)
-          ]),
-    ))
+    elim (rw (c.in-Err.is, c.as_str.ensures.value) at c.call.ensures _ looked.next) [
+      | inl applied ↦ inl (inr (_, _, _, _, _, c.requires.salt, says, logs_in, looked_then looked (inr (Err _, kept, applied))))
+      | inr (shut, three) ↦ inl (inr (_, _, _, _, _, c.requires.salt, says, logs_in, looked_then looked (inl (kept, shut))))
+    ]

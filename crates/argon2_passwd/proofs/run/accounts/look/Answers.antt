@@ -20,39 +20,27 @@ returns-in_err-text g c =
     let found = c.text_of-found.ensures in
     let closed = rw c.into_store.ensures at c.close.ensures [] (c.in_ok-accounts.ensures.opened [] c.requires) in
     let (f, is, of) = err_from_is_err_and c.from_residual-in_err-text.result c.from_residual-in_err-text.ensures.1 in
-    rw is (inl (inr (
-      c.in_err-text.field-0.0,
-      of,
-      unread c.args.name.now _ _ _ c.in_ok-accounts.ensures.ok found.reads found.shows closed _ c.in_err-text.was,
-    )))
+    rw is (inl (inr (_, of, unread c.args.name.now _ _ _ c.in_ok-accounts.ensures.ok found.reads found.shows closed _ c.in_err-text.was)))
 
 pub returns-in_default : goal.returns-in_default
 returns-in_default g c =
     let found = c.text_of-found.ensures in
     let closed = rw c.into_store.ensures at c.close.ensures [] (c.in_ok-accounts.ensures.opened [] c.requires) in
     let is = rw c.in_default.is at c.in_ok-text.was in
-    inl (inl (
-      None,
-      c.into.ensures,
-      looked c.args.name.now _ _ _ c.in_ok-accounts.ensures.ok found.reads found.shows closed None is,
-    ))
+    inl (inl (None, c.into.ensures, looked c.args.name.now _ _ _ c.in_ok-accounts.ensures.ok found.reads found.shows closed None is))
 
 pub returns-in-Err : goal.returns-in-Err
 returns-in-Err g c =
     let found = c.text_of-found.ensures in
     let closed = rw c.into_store.ensures at c.close.ensures [] (c.in_ok-accounts.ensures.opened [] c.requires) in
     let is = rw c.in-Some.is at c.in_ok-text.was in
-    inl (inl (
-      Some (string_bytes c.in-Some.text),
-      inl (rw c.as_str.ensures.value at c.in-Err.ensures.err),
-      looked c.args.name.now _ _ _ c.in_ok-accounts.ensures.ok found.reads found.shows closed (Some c.in-Some.text) is,
-    ))
+    let shut = rw c.as_str.ensures.value at c.in-Err.ensures.err in
+    inl (inl (Some _, inl shut, looked c.args.name.now _ _ _ c.in_ok-accounts.ensures.ok found.reads found.shows closed (Some _) is))
 
 pub returns-in-Ok : goal.returns-in-Ok
 returns-in-Ok g c =
     let found = c.text_of-found.ensures in
     let closed = rw c.into_store.ensures at c.close.ensures [] (c.in_ok-accounts.ensures.opened [] c.requires) in
-    let is = rw c.in-Some.is at c.in_ok-text.was in (
-      rw c.as_str.ensures.value at c.in-Ok.ensures.ok,
-      looked c.args.name.now _ _ _ c.in_ok-accounts.ensures.ok found.reads found.shows closed (Some c.in-Some.text) is,
-    )
+    let is = rw c.in-Some.is at c.in_ok-text.was in
+    let says = rw c.as_str.ensures.value at c.in-Ok.ensures.ok in
+    (says, looked c.args.name.now _ _ _ c.in_ok-accounts.ensures.ok found.reads found.shows closed (Some _) is)
