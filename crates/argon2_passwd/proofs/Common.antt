@@ -4,7 +4,7 @@ pub use Rattle.std.proofs.Common.{Result, rules, Some, subst, suc, sym, take, tr
 pub use Rattle.std.proofs.lemmas.Option.{IfSome_then}
 pub use Rattle.std.specs.Io.BufRead.{drop_through, DropsThrough, strip_last}
 pub use Rattle.std.specs.Io.KnownBytes.{Appends, Keeps, WriteAppends}
-pub use Rattle.std.specs.Prelude.{All, IfOk, IfSome, IsSome, IsTrue, MatchOption, String, string_bytes, ◌↔◌}
+pub use Rattle.std.specs.Prelude.{All, IfOk, IfSome, IsTrue, MatchOption, String, string_bytes}
 pub use Rattle.sqlite_trees.specs.declared.store.Store.{Ghosts}
 use Rattle.argon2_base.specs.PhcText.{Phc}
 use Rattle.argon2.specs.declared.bound.BoundError.{BoundError}

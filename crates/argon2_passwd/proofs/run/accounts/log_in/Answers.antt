@@ -1,17 +1,5 @@
-use Rattle.argon2_passwd.proofs.Common.{answer_without_text, ap, arith, Err, err_from_is_err_and, err_is, inl, inr, IsSome, None, Ok, looked_then, Option, phc_of, refl, Some, unfound_then, ◌↔◌, ◌≡◌}
-use Rattle.argon2_base.specs.declared.phc.hash.PasswordHash.{PasswordHash}
-use Rattle.argon2.specs.declared.login.answers.Accepted.{Accepted}
-use Rattle.argon2.specs.declared.login.answers.Accepted.TheVariants.{Kept, Rehashed}
+use Rattle.argon2_passwd.proofs.Common.{sym, answer_without_text, ap, arith, Err, err_from_is_err_and, err_is, inl, inr, Ok, looked_then, phc_of, refl, Some, unfound_then}
 use Rattle.argon2_passwd.proofs.run.accounts.log_in.Goals as goal
-
--- a login without a fresh text has nothing to write
-not_renewed : (did : Accepted) (fresh : Option PasswordHash) → fresh ≡ None
-    → IsSome fresh ↔ (did ≡ Rehashed) → did ≡ answer_without_text did
-not_renewed did fresh none is = grind arith
-
-renewed : (did : Accepted) (fresh : Option PasswordHash) (text : PasswordHash) → fresh ≡ Some text
-    → IsSome fresh ↔ (did ≡ Rehashed) → Kept ≡ answer_without_text did
-renewed did fresh text some is = grind arith
 
 pub returns-in_err-text : goal.returns-in_err-text
 returns-in_err-text g c =
@@ -31,9 +19,8 @@ returns-in_err-accepted g c =
 pub returns-in_default : goal.returns-in_default
 returns-in_default g c =
     let (says, looked) = c.in_ok-text.ensures in
-    let same = not_renewed c.in_ok-accepted.field-0.accepted _ c.in_default.is c.in_ok-accepted.ensures.fresh in
     let logs_in = rw c.in_default.is at c.in_ok-accepted.ensures.step in
-    inl (inr (_, _, _, _, _, c.requires.salt, says, logs_in, looked_then looked (inl (ap Ok same, looked.next))))
+    inl (inr (_, _, _, _, _, c.requires.salt, says, logs_in, looked_then looked (inl (grind arith, looked.next))))
 
 pub returns-in-Ok : goal.returns-in-Ok
 returns-in-Ok g c =
@@ -48,7 +35,8 @@ pub returns : goal.returns
 returns g c =
     let (says, looked) = c.in_ok-text.ensures in
     let logs_in = rw c.in-Some.is at c.in_ok-accepted.ensures.step in
-    let kept = ap Ok (renewed c.in_ok-accepted.field-0.accepted _ _ c.in-Some.is c.in_ok-accepted.ensures.fresh) in
+    let fresh = (rw c.in-Some.is at c.in_ok-accepted.ensures.fresh).0 refl in
+    let kept = ap (λ did. Ok (answer_without_text did)) (sym fresh) in
     elim (rw (c.in-Err.is, c.as_str.ensures.value) at c.call.ensures _ looked.next) [
       | inl applied ↦ inl (inr (_, _, _, _, _, c.requires.salt, says, logs_in, looked_then looked (inr (Err _, kept, applied))))
       | inr (shut, three) ↦ inl (inr (_, _, _, _, _, c.requires.salt, says, logs_in, looked_then looked (inl (kept, shut))))

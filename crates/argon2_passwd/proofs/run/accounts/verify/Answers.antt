@@ -4,10 +4,9 @@ use Rattle.argon2_passwd.proofs.run.accounts.verify.Goals as goal
 pub returns-in_err-accepted : goal.returns-in_err-accepted
 returns-in_err-accepted g c =
     let found = found_as (g.R.Read.remaining c.args.input.now) c.as_slice.ensures.value c.in_ok-password.ensures.found in
-    let f = c.in_err-accepted.field-0.0 in
     rw (err_is _ _ c.from_residual-in_err-accepted.ensures.1)
     (elim c.in_err-accepted.ensures [
-      | inl login ↦ inl (Err f, (refl, keeps_same _), (_, found, login))
+      | inl login ↦ inl (Err _, (refl, keeps_same _), (_, found, login))
       | inr (shut, three) ↦ inr (shut, ((λ isnt. absurd (isnt three)), inr (keeps_same _)))
     ])
 
