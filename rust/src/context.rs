@@ -7,6 +7,9 @@ use crate::password_hash::{
 use crate::{Algorithm, Block, Kdf, Params, Pbkdf, Result, Version, kdf, sys};
 use std::fmt;
 
+#[cfg(doc)]
+use crate::Error;
+
 /// A hasher: a variant, a version, parameters, and a secret if there is one.
 #[derive(Clone, Default)]
 pub struct Argon2<'key> {
