@@ -40,22 +40,27 @@ def require(holds, why):
         raise ValueError(why)
 
 
+def cost(number, most):
+    """The cost that a text shows. It has a bound."""
+    require(0 < int(number) <= most, "costs are below 1 or above the bound")
+    return int(number)
+
+
 def accepts_other(text, password):
     """Whether a text of bcrypt, or Django's of PBKDF2 or scrypt, accepts the bytes of a password. Costs have a bound too."""
     if text.startswith("$2"):
-        require(int(text[4:6]) <= 14, "costs are above the bound")
+        cost(text[4:6], 14)
         # (bcrypt ends a password at a NUL, and the module refuses one)
         return b"\0" not in password and bcrypt.checkpw(password, text.encode())
     scheme, *fields = text.split("$")
     if scheme == "pbkdf2_sha256":
         rounds, salt, stored = fields
-        require(int(rounds) <= 2000000, "costs are above the bound")
-        found = hashlib.pbkdf2_hmac("sha256", password, salt.encode(), int(rounds))
+        found = hashlib.pbkdf2_hmac("sha256", password, salt.encode(), cost(rounds, 2000000))
     else:
         require(scheme == "scrypt", "no known scheme")
         n, salt, r, p, stored = fields
-        require(int(p) <= 16, "costs are above the bound")
-        found = hashlib.scrypt(password, salt=salt.encode(), n=int(n), r=int(r), p=int(p), maxmem=1 << 26)
+        n, r, p = cost(n, 1 << 19), cost(r, 1 << 19), cost(p, 16)
+        found = hashlib.scrypt(password, salt=salt.encode(), n=n, r=r, p=p, maxmem=1 << 26)
     return hmac.compare_digest(base64.b64encode(found), stored.encode())
 
 
