@@ -80,7 +80,8 @@ def accepts(text, password):
         is_cheap = costs.memory_cost <= 262144 and costs.time_cost <= 16 and costs.parallelism <= 16
         require(is_cheap, "costs are above the bound")
         return HASHER.verify(text, password)
-    except argon2.exceptions.VerifyMismatchError:
+    except (argon2.exceptions.VerifyMismatchError, UnicodeEncodeError):
+        # (an error of UTF-8 names the password, so it is not logged)
         return False
     except (ValueError, argon2.exceptions.VerificationError) as error:
         LOG.error("a stored text is refused: %r", error)
