@@ -1,6 +1,6 @@
 //! What the calls of the login store return.
 
-ghost use Rattle.std.specs.Prelude.{Some};
+ghost use Rattle.std.specs.Prelude.{◌≡◌, Some};
 ghost use Rattle.argon2.specs.Login.{accepted_text, login_error_text};
 
 use argon2_base::error::password_hash::Error;
@@ -20,15 +20,24 @@ pub enum Accepted {
     Kept,
 }
 
+impl Accepted {
+    /// What became of the text, in words.
+    pub fn as_str(&self) -> &'static str
+        ensures { result.now ≡ accepted_text self.now }
+    {
+        match self {
+            Accepted::Current => "text is current",
+            Accepted::Rehashed => "text is renewed",
+            Accepted::Kept => "text is kept",
+        }
+    }
+}
+
 impl fmt::Display for Accepted {
     ghost output = { λ a. Some (accepted_text a) };
 
     fn fmt<W: fmt::Write>(&self, f: &mut fmt::Formatter<W>) -> fmt::Result {
-        match self {
-            Accepted::Current => f.write_str("text is current"),
-            Accepted::Rehashed => f.write_str("text is renewed"),
-            Accepted::Kept => f.write_str("text is kept"),
-        }
+        f.write_str(self.as_str())
     }
 }
 
