@@ -1,9 +1,8 @@
 -- The fold over all blocks of a message: the blocks before the last, and then the last.
-use Rattle.std.proofs.Common.{◌≡◌, ℕ, zero, suc, ◌+◌, ◌-◌, ◌*◌, ◌≤◌, min, true, false, List, [], ◌∷◌, ◌++◌, length, take, drop, replicate, refl, sym, ap, ◌∙◌, arith, length-append, length-drop, add-zero, zero-add}
-use Rattle.std.proofs.lemmas.List.{drop-append-le, take_all, drop-drop, length-replicate}
+use Rattle.argon2_base.proofs.Imports.{◌≡◌, ℕ, zero, suc, ◌+◌, ◌-◌, ◌*◌, ◌≤◌, min, true, false, List, [], ◌∷◌, ◌++◌, length, take, drop, replicate, refl, sym, ap, ◌∙◌, arith, length-append}
+use Rattle.argon2_base.proofs.Imports.{length-drop, add-zero, zero-add, drop-append-le, take_all, drop-drop, length-replicate, block_count, blocks, compress, hash_blocks, hash_after}
+use Rattle.argon2_base.proofs.Imports.{blocks_before}
 use Rattle.std.specs.Simd.{first_chunks}
-use Rattle.argon2_base.specs.Blake2b.{block_count, blocks, compress, hash_blocks}
-use Rattle.argon2_base.specs.Hasher.{hash_after, blocks_before}
 use Rattle.argon2_base.proofs.blake2b_lemmas.Absorbing.{held, IsAbsorbed, hash_after-append, hash_after_next}
 
 -- one block is the last

@@ -1,15 +1,8 @@
 -- How the output of the hash of any length grows piece by piece.
-use Rattle.std.proofs.Common.{◌≡◌, ℕ, zero, suc, ◌+◌, ◌-◌, ◌*◌, ◌<◌, ◌≤◌, List, [], ◌++◌, ◌^◌, length, take, drop, slice_index_or, refl, sym, arith, add-one, add-zero, length-drop}
-use Rattle.std.proofs.lemmas.Bool.{le-ltb, lt-ltb}
-use Rattle.std.proofs.lemmas.List.{append-nil, append_assoc, drop_all, take_at}
-use Rattle.std.proofs.lemmas.Slice.{take-put_mid}
-use Rattle.std.specs.List.{flat_map, range_with_len}
-use Rattle.argon2_base.specs.Blake2b.{blake2b}
-use Rattle.argon2_base.specs.LongHash.{chain, half, half_count, pieces, joined, long_hash}
-use Rattle.std.specs.Borrow.{Bor}
-use Rattle.std.specs.Int.{w32, to_le_bytes}
-use Rattle.std.proofs.lemmas.List.Folds.{length-flat_map-take}
-use borrow.Rule.Slice.PartMut.{put_mid, post_of}
+use Rattle.argon2_base.proofs.Imports.{◌≡◌, ℕ, zero, suc, ◌+◌, ◌-◌, ◌*◌, ◌<◌, ◌≤◌, List, [], ◌++◌, ◌^◌, length, take, drop, slice_index_or, refl, sym, arith, add-one, add-zero, length-drop}
+use Rattle.argon2_base.proofs.Imports.{le-ltb, lt-ltb, drop_all, take_at, take-put_mid, flat_map, range_with_len, blake2b, chain, half, half_count, pieces, joined, long_hash, Bor, w32}
+use Rattle.argon2_base.proofs.Imports.{to_le_bytes, length-flat_map-take, put_mid, post_of}
+use Rattle.std.proofs.lemmas.List.{append-nil, append_assoc}
 
 -- the first i halves
 abbrev pub first_halves : List ℕ → ℕ → List ℕ

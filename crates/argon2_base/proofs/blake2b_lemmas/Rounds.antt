@@ -1,9 +1,7 @@
 -- Rounds follow one another, and the halves are joined word by word.
-use Rattle.std.proofs.Common.{◌≡◌, ℕ, suc, ◌+◌, ◌<◌, List, bit_xor, length, map, take, slice_index, slice_set, sym, ap, ◌∙◌, arith}
-use Rattle.std.proofs.lemmas.List.{take_more_set}
-use Rattle.std.proofs.lemmas.List.FromFn.{map-range_with_len_more}
-use Rattle.std.specs.List.{range_with_len}
-use Rattle.argon2_base.specs.Blake2b.{round, rounds, sigma}
+use Rattle.argon2_base.proofs.Imports.{◌≡◌, ℕ, suc, ◌+◌, ◌<◌, List, length, map, take, slice_index, slice_set, sym, ap, ◌∙◌, arith, take_more_set, map-range_with_len_more, range_with_len}
+use Rattle.argon2_base.proofs.Imports.{round, rounds, sigma}
+use Rattle.std.proofs.Common.{bit_xor}
 
 -- one more round is done
 pub one_more : {before after : List ℕ} (v m : List ℕ) (r : ℕ) → before ≡ rounds v m r

@@ -1,10 +1,6 @@
 -- Vectors of sixteen lanes, and P on groups of lanes of four of them.
-use Rattle.std.proofs.Common.{◌≡◌, ℕ, zero, suc, ◌<◌, ◌+◌, ◌%◌, List, [], ◌∷◌, ◌++◌, length, slice_index, map, arith, refl, ap, ◌∙◌, lit<}
-use Rattle.std.specs.List.{range_with_len}
-use Rattle.std.proofs.lemmas.List.{get_or-map, get_or_append_left}
-use Rattle.std.specs.Simd.Lanes.{pick_l}
-use Rattle.argon2_base.specs.Block.{gb, mix_diagonals, perm}
-use Rattle.argon2_base.specs.Lanes.{column_lanes, exchanged_left, exchanged_right, fours, group, lane_word, pairs, vector_words}
+use Rattle.argon2_base.proofs.Imports.{◌≡◌, ℕ, zero, suc, ◌<◌, ◌+◌, ◌%◌, List, [], ◌∷◌, ◌++◌, length, slice_index, map, arith, refl, ap, ◌∙◌, lit<, range_with_len, get_or-map}
+use Rattle.argon2_base.proofs.Imports.{get_or_append_left, pick_l, gb, mix_diagonals, perm, column_lanes, exchanged_left, exchanged_right, fours, group, lane_word, pairs, vector_words}
 use Rattle.argon2_base.proofs.block_lemmas.LaneLemmas.{columns_mixed, diagonals_mixed, Exchanges, row_at, two_vectors, word_at}
 
 -- what is true of 0 to 3 is true of each number below 4

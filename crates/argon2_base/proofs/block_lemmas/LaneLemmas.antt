@@ -1,13 +1,9 @@
 -- Vectors of eight lanes, and what the steps of the mixing do in each lane.
-use Rattle.std.proofs.Common.{◌≡◌, ℕ, zero, suc, ◌<◌, ◌+◌, ◌-◌, ◌*◌, ◌/◌, ◌%◌, ◌^◌, List, [], ◌∷◌, ◌++◌, length, slice_index, ◌==◌, if◌then◌else◌, bit_and, bit_or, bit_xor, slice_index_or, map, replicate, arith, refl, ap, subst, ◌∙◌, lit<, sym, ap₂}
-use Rattle.std.specs.List.{range_with_len}
-use Rattle.std.proofs.lemmas.Nat.{and_mask}
-use Rattle.std.proofs.lemmas.List.{ext_get_or, get_or-replicate, length-replicate}
-use Rattle.std.proofs.lemmas.Simd.{get_or-zip2, length-zip2}
-use Rattle.std.proofs.lemmas.List.FromFn.{get_or-map-range_with_len, length-map-range_with_len}
-use Rattle.std.specs.Simd.Lanes.{zip2, pick_l}
-use Rattle.argon2_base.specs.Block.{add_mul, gb, mix_columns, mix_diagonals, row, xor_rotate}
-use Rattle.argon2_base.specs.Lanes.{exchanged_left, exchanged_right, lane, lane_word, words_in_eights}
+use Rattle.argon2_base.proofs.Imports.{◌≡◌, ℕ, zero, suc, ◌<◌, ◌+◌, ◌-◌, ◌*◌, ◌/◌, ◌%◌, ◌^◌, List, [], ◌∷◌, ◌++◌, length, slice_index, ◌==◌, if◌then◌else◌, bit_and, slice_index_or, map}
+use Rattle.argon2_base.proofs.Imports.{replicate, arith, refl, ap, subst, ◌∙◌, lit<, sym, ap₂, range_with_len, and_mask, ext_get_or, get_or-replicate, length-replicate, get_or-zip2}
+use Rattle.argon2_base.proofs.Imports.{length-zip2, get_or-map-range_with_len, length-map-range_with_len, zip2, pick_l, add_mul, gb, mix_columns, mix_diagonals, row, xor_rotate}
+use Rattle.argon2_base.proofs.Imports.{exchanged_left, exchanged_right, lane, lane_word, words_in_eights}
+use Rattle.std.proofs.Common.{bit_or, bit_xor}
 
 -- what is true of 0 and 1 is true of each number below 2
 pub below_two : (P : ℕ → Type 0) → P 0 → P 1 → (e : ℕ) → e < 2 → P e

@@ -1,7 +1,5 @@
 -- Laws of the mixing of two blocks.
-use Rattle.std.proofs.Common.{◌≡◌, ℕ, List, [], ◌∷◌, refl, ap, ap₂}
-use Rattle.std.proofs.lemmas.Nat.{xor_comm}
-use Rattle.argon2_base.specs.Block.{by_columns, by_rows, mixed, xor_blocks}
+use Rattle.argon2_base.proofs.Imports.{◌≡◌, ℕ, List, [], ◌∷◌, refl, ap, ap₂, xor_comm, by_columns, by_rows, mixed, xor_blocks}
 
 -- the exclusive or of two blocks does not mind their order
 pub xor_blocks-comm : (x y : List ℕ) → xor_blocks x y ≡ xor_blocks y x

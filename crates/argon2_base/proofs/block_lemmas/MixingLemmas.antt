@@ -1,12 +1,8 @@
 -- From the vectors of the kernel to the mixing that the standard defines.
-use Rattle.std.proofs.Common.{◌≡◌, ℕ, Bool, true, false, ◌<◌, ◌≤◌, ◌+◌, ◌-◌, ◌*◌, ◌/◌, ◌%◌, List, [], inl, inr, length, map, slice_index, slice_index_or, ◌==◌, if◌then◌else◌, bit_xor, arith, refl, sym, ap, ap₂, ◌∙◌, zero-add}
-use Rattle.std.proofs.lemmas.Bool.{cases_lt}
-use Rattle.std.proofs.lemmas.List.{ext_get_or}
-use Rattle.std.proofs.lemmas.List.FromFn.{get_or-map-range_with_len, length-map-range_with_len}
-use Rattle.std.proofs.lemmas.Simd.{get_or-zip2, length-zip2}
-use Rattle.std.specs.List.{range_with_len}
-use Rattle.argon2_base.specs.Block.{by_columns, by_rows, column, perm, row, xor_blocks}
-use Rattle.argon2_base.specs.Lanes.{column_lanes, half_word, lane, lane_word, pairs, vector_words, written}
+use Rattle.argon2_base.proofs.Imports.{◌≡◌, ℕ, Bool, true, false, ◌<◌, ◌≤◌, ◌+◌, ◌-◌, ◌*◌, ◌/◌, ◌%◌, List, [], inl, inr, length, map, slice_index, slice_index_or, ◌==◌, if◌then◌else◌, arith}
+use Rattle.argon2_base.proofs.Imports.{refl, sym, ap, ap₂, ◌∙◌, zero-add, cases_lt, ext_get_or, get_or-map-range_with_len, length-map-range_with_len, get_or-zip2, length-zip2}
+use Rattle.argon2_base.proofs.Imports.{range_with_len, by_columns, by_rows, column, perm, row, xor_blocks, column_lanes, half_word, lane, lane_word, pairs, vector_words, written}
+use Rattle.std.proofs.Common.{bit_xor}
 use Rattle.argon2_base.proofs.block_lemmas.LaneLemmas.{below_two, word_at, words_are}
 
 -- lane q of the vector of an even or an odd number, of two neighbours

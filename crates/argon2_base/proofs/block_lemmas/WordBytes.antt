@@ -1,11 +1,5 @@
 -- The bytes of words, written word after word.
-use Rattle.std.proofs.Common.{◌≡◌, ℕ, ◌<◌, ◌≤◌, ◌+◌, List, [], ◌∷◌, length, take, slice_index, sym}
-use Rattle.std.proofs.lemmas.Grind.{flat_map-append}
-use Rattle.std.proofs.lemmas.List.{take_more}
-use Rattle.std.proofs.lemmas.Slice.{take-put_mid}
-use Rattle.std.specs.Int.{w64, to_le_bytes}
-use Rattle.std.specs.List.{flat_map}
-use borrow.Rule.Slice.PartMut.{put_mid}
+use Rattle.argon2_base.proofs.Imports.{◌≡◌, ℕ, ◌<◌, ◌≤◌, ◌+◌, List, [], ◌∷◌, length, take, slice_index, sym, flat_map-append, take_more, take-put_mid, w64, to_le_bytes, flat_map, put_mid}
 
 -- one more word
 pub one_more_word : (out words piece : List ℕ) (i at k next : ℕ) → next ≡ at + 8 → at ≤ length out → i < length words

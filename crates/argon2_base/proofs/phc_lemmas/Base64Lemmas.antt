@@ -1,20 +1,13 @@
 -- The engine without padding reads and writes strict Base64, and nothing else.
-use Rattle.std.proofs.Common.{◌≡◌, ◌≢◌, ℕ, zero, suc, ◌+◌, ◌*◌, ◌/◌, ◌<◌, ◌≤◌, Bool, true, ◌&&◌, nat_le, nat_lt, List, [], ◌∷◌, ◌++◌, length, take, drop, Ok, Err, refl, sym, ◌∙◌, ap, arith, Result, Option, Some, None}
-use Rattle.std.proofs.lemmas.Bool.{and_parts, le-leb, leb-true, lt-ltb, ltb-true}
+use Rattle.argon2_base.proofs.Imports.{◌≡◌, ◌≢◌, ℕ, zero, suc, ◌+◌, ◌*◌, ◌/◌, ◌<◌, ◌≤◌, Bool, true, ◌&&◌, nat_le, nat_lt, List, [], ◌∷◌, ◌++◌, length, take, drop, Ok, Err, refl, sym, ◌∙◌}
+use Rattle.argon2_base.proofs.Imports.{ap, arith, Result, Option, Some, None, and_parts, le-leb, leb-true, lt-ltb, ltb-true, IsUtf8-from_ascii, list_all, IsUtf8, standard_no_pad}
+use Rattle.argon2_base.proofs.Imports.{encode_symbols, decode_of, decoded_of, encode_of, encoded_size_of, DecodeError, alphabet, strict_base64, short_bytes, IsBytes, base64_length}
+use Rattle.argon2_base.proofs.Imports.{IsBase64Cause}
 use Rattle.std.proofs.lemmas.List.{append-nil}
-use Rattle.std.proofs.lemmas.Str.{IsUtf8-from_ascii}
-use Rattle.std.specs.List.{list_all}
-use Rattle.std.specs.Str.{IsUtf8}
-use Rattle.base64.specs.Engines.{standard_no_pad}
-use Rattle.base64.specs.Rfc4648.{encode_symbols}
-use Rattle.base64.specs.GeneralPurpose.{decode_of, decoded_of, encode_of, encoded_size_of}
-use Rattle.base64.specs.declared.decode.DecodeError.{DecodeError}
 use Rattle.base64.specs.declared.encode.EncodeSliceError.{EncodeSliceError}
 use Rattle.base64.specs.declared.encode.EncodeSliceError.TheVariants.{OutputSliceTooSmall}
 use Rattle.base64.proofs.EngineFacts.{decode_of_strict, decode_of-encode_of, encoded_prefix, IsAscii-encode_of}
 use Rattle.base64.proofs.RoundTrip.{length-encode_symbols}
-use Rattle.argon2_base.specs.Texts.{alphabet, strict_base64, short_bytes, IsBytes}
-use Rattle.argon2_base.specs.ByteList.{base64_length, IsBase64Cause}
 use Rattle.argon2_base.specs.declared.error.B64Error.{B64Error}
 use Rattle.argon2_base.specs.declared.error.B64Error.TheVariants.{InvalidEncoding, InvalidLength}
 

@@ -1,18 +1,11 @@
 -- Byte lists with zeros behind their bytes: what copying and decoding into zeros leaves.
-use Rattle.std.proofs.Common.{◌≡◌, ℕ, ◌/◌, ◌-◌, ◌≤◌, Bool, false, List, ◌++◌, length, take, drop, replicate, if◌then◌else◌, Option, Result, Ok, Err, refl, sym, ap, ◌∙◌, arith}
-use Rattle.std.proofs.lemmas.Bool.Decides.{nat_tests}
-use Rattle.std.proofs.lemmas.Bool.{le-ltb}
-use Rattle.std.proofs.lemmas.List.{drop-replicate, take_at}
-use Rattle.std.proofs.lemmas.Slice.{drop-append-drop}
-use Rattle.base64.specs.Engines.{standard_no_pad}
-use Rattle.base64.specs.GeneralPurpose.{decode_of, decode_slice_of, decoded_bytes_of}
+use Rattle.argon2_base.proofs.Imports.{◌≡◌, ℕ, ◌/◌, ◌-◌, ◌≤◌, Bool, false, List, ◌++◌, length, take, drop, replicate, if◌then◌else◌, Option, Result, Ok, Err, refl, sym, ap, ◌∙◌, arith}
+use Rattle.argon2_base.proofs.Imports.{nat_tests, le-ltb, drop-replicate, take_at, drop-append-drop, standard_no_pad, decode_of, decode_slice_of, decoded_bytes_of, DecodeError, IsBytes}
+use Rattle.argon2_base.proofs.Imports.{strict_base64, base64_length}
 use Rattle.base64.specs.Decode.{bytes_fit, decode_outcome, groups_before_last, or_else, or_error}
-use Rattle.base64.specs.declared.decode.DecodeError.{DecodeError}
 use Rattle.base64.specs.declared.decode.DecodeSliceError.{DecodeSliceError}
 use Rattle.base64.specs.declared.decode.DecodeSliceError.TheVariants.{OutputSliceTooSmall}
-use Rattle.argon2_base.specs.Texts.{IsBytes, strict_base64}
 use Rattle.argon2_base.proofs.phc_lemmas.Base64Lemmas.{decode_of-strict_base64, length-strict_base64, strict_base64_decoded}
-use Rattle.argon2_base.specs.ByteList.{base64_length}
 
 -- behind the k bytes ys that were copied, the rest of n zeros is left
 pub drop-filled : (n k : ℕ) (ys : List ℕ) → length ys ≡ k → drop k (ys ++ drop k (replicate n 0)) ≡ replicate (n - k) 0

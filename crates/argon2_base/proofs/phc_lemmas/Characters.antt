@@ -1,13 +1,6 @@
 -- What follows from a test of each character.
-use Rattle.std.proofs.Common.{◌≡◌, ℕ, ◌<◌, ◌≤◌, Bool, true, false, List, [], ◌∷◌, length, arith, ◌==◌}
-use Rattle.std.proofs.lemmas.Bool.Decides.{nat_tests}
-use Rattle.std.proofs.lemmas.Bool.{and_parts}
-use Rattle.std.specs.List.{list_all, AllByRecursion}
-use Rattle.std.specs.Str.{IsUtf8}
-use Rattle.std.proofs.lemmas.List.Elements.{All-from_recursion}
-use Rattle.std.proofs.lemmas.Str.{IsUtf8-from_ascii}
-use Rattle.std.proofs.lemmas.Str.Ascii.{IsAscii-from_all}
-use Rattle.argon2_base.specs.Texts.{is_name_char, is_name}
+use Rattle.argon2_base.proofs.Imports.{◌≡◌, ℕ, ◌<◌, ◌≤◌, Bool, true, false, List, [], ◌∷◌, length, arith, ◌==◌, nat_tests, and_parts, list_all, AllByRecursion, IsUtf8, All-from_recursion}
+use Rattle.argon2_base.proofs.Imports.{IsUtf8-from_ascii, IsAscii-from_all, is_name_char, is_name}
 
 -- each element is what passing elements are
 pub tests_give : (p : ℕ → Bool) (P : ℕ → Type 0) (gives : (c : ℕ) → p c ≡ true → P c) (s : List ℕ)

@@ -1,7 +1,6 @@
 -- Bytes that are compared by the bits in which they differ.
-use Rattle.std.proofs.Common.{◌≡◌, ◌∙◌, ℕ, sym, arith, refl}
+use Rattle.argon2_base.proofs.Imports.{◌≡◌, ◌∙◌, ℕ, sym, arith, refl, le_or_l, le_or_r}
 use Rattle.std.specs.Int.Bits.{bit_or, bit_xor, xor_zero_l, xor_zero_r, xor_self, xor_assoc}
-use Rattle.std.proofs.lemmas.Nat.{le_or_l, le_or_r}
 
 -- if no difference is noted after two bytes, none was before them, and they are equal
 pub no_difference : (d x y : ℕ) → bit_or d (bit_xor x y) ≡ 0 → (d ≡ 0) × (x ≡ y)

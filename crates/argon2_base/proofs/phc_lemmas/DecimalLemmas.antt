@@ -1,12 +1,6 @@
 -- Which number a decimal is of.
-use Rattle.std.proofs.Common.{◌≡◌, ℕ, ◌^◌, ◌<◌, List, Some, None, refl, arith}
-use Rattle.std.proofs.lemmas.Bool.{lt-ltb}
-use Rattle.std.proofs.lemmas.Bool.Decides.{nat_tests}
-use Rattle.std.proofs.lemmas.Slice.Eq.{bytes_eq-Decides}
-use Rattle.std.proofs.lemmas.Fmt.{decimal_is_IsNumeral}
+use Rattle.argon2_base.proofs.Imports.{◌≡◌, ℕ, ◌^◌, ◌<◌, List, Some, None, refl, arith, lt-ltb, nat_tests, bytes_eq-Decides, decimal_is_IsNumeral, decimal, number_of}
 use Rattle.std.specs.Str.Parse.{digits_value}
-use Rattle.std.specs.Fmt.{decimal}
-use Rattle.argon2_base.specs.Texts.{number_of}
 
 -- a decimal is of its number
 pub number_again : (text : List ℕ) (n : ℕ) → n < 2 ^ 32 → text ≡ decimal n → number_of text ≡ Some n

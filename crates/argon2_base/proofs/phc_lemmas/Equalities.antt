@@ -1,13 +1,8 @@
 -- The equalities of lists of parameters and of what PHC texts say: each value equals itself alone.
-use Rattle.std.proofs.Common.{◌≡◌, Bool, ◌&&◌, List, Option, refl, arith}
+use Rattle.argon2_base.proofs.Imports.{◌≡◌, Bool, ◌&&◌, List, Option, refl, arith, pointwise_decides, bytes_eq, Decides-and, bytes_eq-Decides, Pair, Phc, pairs_eq, phc_eq}
 use Rattle.std.specs.Bool.{Decides}
 use Rattle.std.specs.Cmp.{unsigned_Decides}
-use Rattle.std.specs.Cmp.Lexicographic.{pointwise_decides}
 use Rattle.std.specs.Option.{option_eq}
-use Rattle.std.specs.Str.{bytes_eq}
-use Rattle.std.proofs.lemmas.Bool.Decides.{Decides-and}
-use Rattle.std.proofs.lemmas.Slice.Eq.{bytes_eq-Decides}
-use Rattle.argon2_base.specs.PhcText.{Pair, Phc, pairs_eq, phc_eq}
 
 -- two parameters are equal if their names and their values are
 pair_eq-Decides : (p q : Pair) → Decides (bytes_eq p.0 q.0 && bytes_eq p.1 q.1) (p ≡ q)

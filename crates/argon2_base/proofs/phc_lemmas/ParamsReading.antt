@@ -1,12 +1,7 @@
 -- Reading a list item by item.
-use Rattle.std.proofs.Common.{◌≡◌, ℕ, ◌<◌, ◌≤◌, true, false, ◌&&◌, List, [], ◌∷◌, ◌++◌, length, map, refl, sym, ap, ◌∙◌, arith, nat_le, length-append}
-use Rattle.std.proofs.lemmas.Bool.Decides.{nat_tests}
-use Rattle.std.proofs.lemmas.Bool.{le-leb, and_parts}
-use Rattle.std.proofs.lemmas.List.Folds.{list_all-append}
-use Rattle.std.proofs.lemmas.List.Splits.{join_with_byte-slice_split}
-use Rattle.std.specs.List.{list_all, join_with_byte}
-use Rattle.std.specs.Prelude.{is_none}
-use Rattle.argon2_base.specs.PhcText.{Pair, item, params_text, value_of, are_distinct, is_param, are_params, ParamsText, pair_of, items_of, pairs_of}
+use Rattle.argon2_base.proofs.Imports.{◌≡◌, ℕ, ◌<◌, ◌≤◌, true, false, ◌&&◌, List, [], ◌∷◌, ◌++◌, length, map, refl, sym, ap, ◌∙◌, arith, nat_le, length-append, nat_tests, le-leb, and_parts}
+use Rattle.argon2_base.proofs.Imports.{list_all-append, join_with_byte-slice_split, list_all, join_with_byte, is_none, Pair, item, params_text, value_of, are_distinct, is_param, are_params}
+use Rattle.argon2_base.proofs.Imports.{ParamsText, pair_of, items_of, pairs_of}
 use Rattle.argon2_base.proofs.phc_lemmas.ParamsTextLemmas.{all_params, pairs_again, param_value}
 
 -- what a list's text says is the list

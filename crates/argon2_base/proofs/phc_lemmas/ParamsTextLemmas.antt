@@ -1,14 +1,9 @@
 -- What a list says, and what longer lists are.
-use Rattle.std.proofs.Common.{◌≡◌, ℕ, ◌<◌, true, false, not, ◌&&◌, List, [], ◌∷◌, ◌++◌, length, map, refl, sym, ap, ◌∙◌, arith, ◌==◌, nat_le, length-append, append_assoc}
-use Rattle.std.specs.Cmp.Lexicographic.{nat_list_eq_equiv}
+use Rattle.argon2_base.proofs.Imports.{◌≡◌, ℕ, ◌<◌, true, false, not, ◌&&◌, List, [], ◌∷◌, ◌++◌, length, map, refl, sym, ap, ◌∙◌, arith, ◌==◌, nat_le, length-append, nat_list_eq_equiv}
+use Rattle.argon2_base.proofs.Imports.{and_parts, list_all, AllByRecursion, list_all-append, bytes_eq, is_none, is_some, is_name, is_value, is_name_char, is_value_char, Pair, item}
+use Rattle.argon2_base.proofs.Imports.{params_text, value_of, are_distinct, is_param, are_params, pair_of, items_of, pairs_of, with_item}
+use Rattle.std.proofs.Common.{append_assoc}
 use Rattle.std.proofs.Math.Bool.{and-false, and-true}
-use Rattle.std.proofs.lemmas.Bool.{and_parts}
-use Rattle.std.specs.List.{list_all, AllByRecursion}
-use Rattle.std.proofs.lemmas.List.Folds.{list_all-append}
-use Rattle.std.specs.Str.{bytes_eq}
-use Rattle.std.specs.Prelude.{is_none, is_some}
-use Rattle.argon2_base.specs.Texts.{is_name, is_value, is_name_char, is_value_char}
-use Rattle.argon2_base.specs.PhcText.{Pair, item, params_text, value_of, are_distinct, is_param, are_params, pair_of, items_of, pairs_of, with_item}
 use Rattle.argon2_base.proofs.phc_lemmas.Characters.{name_chars, lacks_by}
 use Rattle.argon2_base.proofs.phc_lemmas.Separators.{Lacks, Lacks-append, cut_joined}
 

@@ -1,18 +1,12 @@
 -- The fields of a text, and the text of the fields.
-use Rattle.std.proofs.Common.{◌≡◌, ◌≢◌, ℕ, ◌<◌, ◌^◌, true, false, List, [], ◌∷◌, ◌++◌, length, refl, sym, ap, ◌∙◌, subst, arith, Option, Some, None, Ok, Err, append_assoc, codes, ◌==◌, ◌+◌, drop, lit<}
+use Rattle.argon2_base.proofs.Imports.{◌≡◌, ◌≢◌, ℕ, ◌<◌, ◌^◌, true, false, List, [], ◌∷◌, ◌++◌, length, refl, sym, ap, ◌∙◌, subst, arith, Option, Some, None, Ok, Err, codes, ◌==◌, ◌+◌, drop}
+use Rattle.argon2_base.proofs.Imports.{lit<, flat_map-append, and_parts, IfSome, IsSome, IsNone, is_some, Bor, strip_prefix_char, join_with_byte-slice_split, length-slice_split, list_all}
+use Rattle.argon2_base.proofs.Imports.{flat_map, AllByRecursion, join_with_byte, decimal, IsBytes, is_value_char, strict_base64, HasBytes, IsPhc, Pair, Phc, PhcText, are_params, field}
+use Rattle.argon2_base.proofs.Imports.{fields, fields_text, is_param, item, list_field, params_text, phc_text, version_text, fields_of, fields_left, IsBytesField, NoVersionFirst}
+use Rattle.argon2_base.proofs.Imports.{NoItemFirst}
+use Rattle.std.proofs.Common.{append_assoc}
 use Rattle.std.proofs.lemmas.List.{append-nil}
-use Rattle.std.proofs.lemmas.Grind.{flat_map-append}
-use Rattle.std.proofs.lemmas.Bool.{and_parts}
-use Rattle.std.specs.Prelude.{IfSome, IsSome, IsNone, is_some}
-use Rattle.std.specs.Borrow.{Bor}
 use Rattle.std.specs.Str.Pattern.{FindsCharPrefix}
-use Rattle.std.proofs.lemmas.Str.Pattern.{strip_prefix_char}
-use Rattle.std.proofs.lemmas.List.Splits.{join_with_byte-slice_split, length-slice_split}
-use Rattle.std.specs.List.{list_all, flat_map, AllByRecursion, join_with_byte}
-use Rattle.std.specs.Fmt.{decimal}
-use Rattle.argon2_base.specs.Texts.{IsBytes, is_value_char, strict_base64}
-use Rattle.argon2_base.specs.PhcText.{HasBytes, IsPhc, Pair, Phc, PhcText, are_params, field, fields, fields_text, is_param, item, list_field, params_text, phc_text, version_text}
-use Rattle.argon2_base.specs.PhcFields.{fields_of, fields_left, IsBytesField, NoVersionFirst, NoItemFirst}
 use Rattle.argon2_base.specs.declared.error.password_hash.Error.TheVariants.{EncodingInvalid}
 use Rattle.argon2_base.proofs.phc_lemmas.Base64Lemmas.{decode_of-strict_base64, strict_base64_unique}
 use Rattle.argon2_base.proofs.phc_lemmas.Characters.{lacks_by}

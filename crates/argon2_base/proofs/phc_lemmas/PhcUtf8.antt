@@ -1,15 +1,8 @@
 -- A text in the grammar is UTF-8.
-use Rattle.std.proofs.Common.{◌≡◌, ℕ, ◌<◌, ◌^◌, T, ltb, true, List, [], ◌∷◌, ◌++◌, append-nil, refl, arith, lit<, Option, Some, None}
-use Rattle.std.specs.List.{list_all}
-use Rattle.std.specs.Str.{IsUtf8}
-use Rattle.std.proofs.lemmas.Bool.{and_parts}
-use Rattle.std.proofs.lemmas.Bool.Decides.{nat_tests}
-use Rattle.std.proofs.lemmas.Fmt.{IsAscii-decimal}
-use Rattle.std.proofs.lemmas.List.Elements.{All-from_recursion}
-use Rattle.std.proofs.lemmas.Str.{IsUtf8-append, IsUtf8-from_ascii, IsUtf8-nil}
-use Rattle.std.proofs.lemmas.Str.Ascii.{IsAscii-cons, IsAscii-from_all, IsAscii-nil}
-use Rattle.argon2_base.specs.PhcText.{IsPhc, Pair, Phc, field, fields_text, is_param, item, list_field, params_text, phc_text, version_text}
-use Rattle.argon2_base.specs.Texts.{is_value, is_value_char, strict_base64}
+use Rattle.argon2_base.proofs.Imports.{◌≡◌, ℕ, ◌<◌, ◌^◌, T, ltb, true, List, [], ◌∷◌, ◌++◌, refl, arith, lit<, Option, Some, None, list_all, IsUtf8, and_parts, nat_tests, IsAscii-decimal}
+use Rattle.argon2_base.proofs.Imports.{All-from_recursion, IsUtf8-append, IsUtf8-from_ascii, IsUtf8-nil, IsAscii-cons, IsAscii-from_all, IsAscii-nil, IsPhc, Pair, Phc, field, fields_text}
+use Rattle.argon2_base.proofs.Imports.{is_param, item, list_field, params_text, phc_text, version_text, is_value, is_value_char, strict_base64}
+use Rattle.std.proofs.Common.{append-nil}
 use Rattle.argon2_base.proofs.phc_lemmas.Base64Lemmas.{IsUtf8-strict_base64}
 use Rattle.argon2_base.proofs.phc_lemmas.Characters.{IsUtf8-name, tests_give}
 use Rattle.argon2_base.proofs.phc_lemmas.ParamsTextLemmas.{all_params, param_name, param_value}

@@ -1,12 +1,6 @@
 -- The characters of decimals and of strict Base64.
-use Rattle.std.proofs.Common.{◌≡◌, ℕ, suc, ◌+◌, ◌*◌, ◌/◌, ◌%◌, ◌<◌, ◌^◌, Bool, true, List, [], ◌∷◌, length, slice_index_or, refl, arith}
-use Rattle.std.proofs.lemmas.Bool.Decides.{nat_tests}
-use Rattle.std.proofs.lemmas.List.Folds.{list_all-append, list_all_at}
-use Rattle.std.proofs.lemmas.Fmt.{decimal_by_steps}
-use Rattle.std.specs.List.{list_all}
-use Rattle.std.specs.Fmt.{decimal}
-use Rattle.base64.specs.Rfc4648.{encode_symbols}
-use Rattle.argon2_base.specs.Texts.{IsBytes, alphabet, is_value_char, strict_base64}
+use Rattle.argon2_base.proofs.Imports.{◌≡◌, ℕ, suc, ◌+◌, ◌*◌, ◌/◌, ◌%◌, ◌<◌, ◌^◌, Bool, true, List, [], ◌∷◌, length, slice_index_or, refl, arith, nat_tests, list_all-append, list_all_at}
+use Rattle.argon2_base.proofs.Imports.{decimal_by_steps, list_all, decimal, encode_symbols, IsBytes, alphabet, is_value_char, strict_base64}
 
 -- digits are characters of values
 digit_char : (n : ℕ) → n < 10 → is_value_char (48 + n) ≡ true

@@ -1,6 +1,4 @@
-use Rattle.std.proofs.Common.{◌≡◌, ◌∙◌, ◌+◌, ◌-◌, ◌*◌, add-one, ap, arith, refl, take, drop, false}
-use Rattle.argon2_base.specs.Blake2b.{compress}
-use Rattle.argon2_base.specs.Hasher.{hash_on}
+use Rattle.argon2_base.proofs.Imports.{◌≡◌, ◌∙◌, ◌+◌, ◌-◌, ◌*◌, add-one, ap, arith, refl, take, drop, false, compress, hash_on}
 use Rattle.argon2_base.proofs.blake2b.compress_all_but_last.Goals as goal
 
 pub blocks-2-init : goal.blocks-2-init

@@ -1,5 +1,4 @@
-use Rattle.std.proofs.Common.{◌≡◌}
-use Rattle.argon2_base.specs.Hasher.{hash_on}
+use Rattle.argon2_base.proofs.Imports.{◌≡◌, hash_on}
 use Rattle.argon2_base.proofs.blake2b.compress_all_but_last.Given as goal
 
 abbrev pub invariant-blocks-2 : goal.invariant-blocks-2

@@ -1,8 +1,6 @@
-use Rattle.std.proofs.Common.{◌∙◌, ◌*◌, arith}
-use Rattle.std.proofs.lemmas.List.{take_all}
+use Rattle.argon2_base.proofs.Imports.{◌∙◌, ◌*◌, arith, take_all, same_len_mid}
 use Rattle.argon2_base.proofs.block_lemmas.WordBytes.{one_more_word}
 use Rattle.argon2_base.proofs.blake2b.le_bytes.Goals as goal
-use borrow.Rule.Slice.PartMut.{same_len_mid}
 
 pub words-preserved : goal.words-preserved
 words-preserved c = (

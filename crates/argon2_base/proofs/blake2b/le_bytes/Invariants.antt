@@ -1,6 +1,4 @@
-use Rattle.std.proofs.Common.{◌≡◌, ◌*◌, length, take}
-use Rattle.std.specs.List.{flat_map}
-use Rattle.std.specs.Int.{w64, to_le_bytes}
+use Rattle.argon2_base.proofs.Imports.{◌≡◌, ◌*◌, length, take, flat_map, w64, to_le_bytes}
 use Rattle.argon2_base.proofs.blake2b.le_bytes.Given as goal
 
 abbrev pub invariant-words : goal.invariant-words

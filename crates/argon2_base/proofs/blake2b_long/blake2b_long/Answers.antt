@@ -1,4 +1,4 @@
-use Rattle.std.proofs.Common.{◌≡◌, length, arith}
+use Rattle.argon2_base.proofs.Imports.{◌≡◌, length, arith}
 use Rattle.argon2_base.proofs.blake2b_lemmas.Pieces.{long_hash_short, long_hash_pieces}
 use Rattle.argon2_base.proofs.blake2b_long.blake2b_long.Goals as goal
 

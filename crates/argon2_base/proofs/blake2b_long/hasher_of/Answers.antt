@@ -1,5 +1,4 @@
-use Rattle.std.proofs.Common.{◌≡◌, take, arith}
-use Rattle.std.proofs.lemmas.List.{take_all}
+use Rattle.argon2_base.proofs.Imports.{◌≡◌, take, arith, take_all}
 use Rattle.argon2_base.proofs.blake2b_lemmas.Pieces.{input_fits}
 use Rattle.argon2_base.proofs.blake2b_long.hasher_of.Goals as goal
 

@@ -1,7 +1,4 @@
-use Rattle.std.proofs.Common.{◌≡◌, ◌+◌, ◌++◌, min, length, take}
-use Rattle.std.specs.Int.{w32, to_le_bytes}
-use Rattle.argon2_base.specs.Hasher.{Holds}
-use Rattle.argon2_base.specs.LongHash.{joined}
+use Rattle.argon2_base.proofs.Imports.{◌≡◌, ◌+◌, ◌++◌, min, length, take, w32, to_le_bytes, Holds, joined}
 use Rattle.argon2_base.proofs.blake2b_long.hasher_of.Given as goal
 
 abbrev pub invariant-inputs : goal.invariant-inputs

@@ -1,4 +1,4 @@
-use Rattle.std.proofs.Common.{length, refl, ap, sym, ◌∙◌, arith}
+use Rattle.argon2_base.proofs.Imports.{length, refl, ap, sym, ◌∙◌, arith}
 use Rattle.std.proofs.lemmas.List.{length-take-le}
 use Rattle.argon2_base.proofs.blake2b_lemmas.Pieces.{first_piece, next_piece, last_piece}
 use Rattle.argon2_base.proofs.blake2b_long.write_pieces.Goals as goal

@@ -1,5 +1,4 @@
-use Rattle.std.proofs.Common.{◌≡◌, ℕ, List, ◌*◌, length, take}
-use Rattle.argon2_base.specs.LongHash.{chain}
+use Rattle.argon2_base.proofs.Imports.{◌≡◌, ℕ, List, ◌*◌, length, take, chain}
 use Rattle.argon2_base.proofs.blake2b_lemmas.Pieces.{first_halves}
 use Rattle.argon2_base.proofs.blake2b_long.write_pieces.Given as goal
 

@@ -1,4 +1,4 @@
-use Rattle.std.proofs.Common.{refl}
+use Rattle.argon2_base.proofs.Imports.{refl}
 use Rattle.argon2_base.proofs.error.encoding_text.Goals as goal
 
 pub returns-in-InvalidEncoding : goal.returns-in-InvalidEncoding

@@ -1,5 +1,5 @@
-use Rattle.std.proofs.Common.{◌≡◌, ℕ, length, refl, ap, sym, ◌∙◌, arith, length-take-le}
-use Rattle.argon2_base.specs.Blake2b.{blake2b}
+use Rattle.argon2_base.proofs.Imports.{◌≡◌, ℕ, length, refl, ap, sym, ◌∙◌, arith, blake2b}
+use Rattle.std.proofs.Common.{length-take-le}
 use Rattle.argon2_base.proofs.blake2b_lemmas.HasherFields.{held_by_fields, zeros_len, block_len, digest_written}
 use Rattle.argon2_base.proofs.blake2b.Blake2b.finalize_into.Goals as goal
 

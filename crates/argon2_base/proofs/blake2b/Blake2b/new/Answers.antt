@@ -1,5 +1,4 @@
-use Rattle.std.proofs.Common.{rules}
-use Rattle.argon2_base.specs.Hasher.{Holds, hash_after}
+use Rattle.argon2_base.proofs.Imports.{rules, Holds, hash_after}
 use Rattle.argon2_base.proofs.blake2b.Blake2b.new.Goals as goal
 
 pub returns-clause-holds : goal.returns-clause-holds

@@ -1,5 +1,4 @@
-use Rattle.std.proofs.Common.{List, ℕ, ap, ◌∙◌}
-use Rattle.argon2_base.specs.Blake2b.{compress, rounds, working_vector, xor_halves}
+use Rattle.argon2_base.proofs.Imports.{List, ℕ, ap, ◌∙◌, compress, rounds, working_vector, xor_halves}
 use Rattle.argon2_base.proofs.blake2b.compression.compress.Goals as goal
 
 pub returns : goal.returns

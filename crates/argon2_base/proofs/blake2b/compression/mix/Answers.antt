@@ -1,5 +1,4 @@
-use Rattle.std.proofs.Common.{refl}
-use Rattle.argon2_base.specs.Blake2b.{mix}
+use Rattle.argon2_base.proofs.Imports.{refl, mix}
 use Rattle.argon2_base.proofs.blake2b.compression.mix.Goals as goal
 
 pub returns : goal.returns

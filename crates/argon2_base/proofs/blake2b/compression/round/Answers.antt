@@ -1,5 +1,4 @@
-use Rattle.std.proofs.Common.{ap, slice_index, ◌∙◌}
-use Rattle.argon2_base.specs.Blake2b.{mix_at, round}
+use Rattle.argon2_base.proofs.Imports.{ap, slice_index, ◌∙◌, mix_at, round}
 use Rattle.argon2_base.proofs.blake2b.compression.round.Goals as goal
 
 pub returns : goal.returns

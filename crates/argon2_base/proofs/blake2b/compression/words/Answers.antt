@@ -1,7 +1,4 @@
-use Rattle.std.proofs.Common.{arith}
-use Rattle.std.proofs.lemmas.Grind.{common_steps}
-use Rattle.std.proofs.lemmas.List.{take_all}
-use Rattle.argon2_base.specs.Blake2b.{words}
+use Rattle.argon2_base.proofs.Imports.{arith, common_steps, take_all, words}
 use Rattle.argon2_base.proofs.blake2b.compression.words.Goals as goal
 
 pub returns : goal.returns

@@ -1,5 +1,4 @@
-use Rattle.std.proofs.Common.{◌≡◌, length, take, map}
-use Rattle.std.specs.Int.{w64, from_le_bytes}
+use Rattle.argon2_base.proofs.Imports.{◌≡◌, length, take, map, w64, from_le_bytes}
 use Rattle.argon2_base.proofs.blake2b.compression.words.Given as goal
 
 abbrev pub invariant-words : goal.invariant-words

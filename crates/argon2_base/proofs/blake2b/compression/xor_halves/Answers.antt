@@ -1,5 +1,4 @@
-use Rattle.std.proofs.Common.{◌≡◌, ◌∙◌, arith}
-use Rattle.std.proofs.lemmas.List.{take_all, length-set}
+use Rattle.argon2_base.proofs.Imports.{◌≡◌, ◌∙◌, arith, take_all, length-set}
 use Rattle.argon2_base.proofs.blake2b_lemmas.Rounds.{first_words_more}
 use Rattle.argon2_base.proofs.blake2b.compression.xor_halves.Goals as goal
 

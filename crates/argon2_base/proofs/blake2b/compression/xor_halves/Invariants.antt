@@ -1,4 +1,4 @@
-use Rattle.std.proofs.Common.{◌≡◌, length, take}
+use Rattle.argon2_base.proofs.Imports.{◌≡◌, length, take}
 use Rattle.argon2_base.proofs.blake2b_lemmas.Rounds.{first_words}
 use Rattle.argon2_base.proofs.blake2b.compression.xor_halves.Given as goal
 

@@ -1,7 +1,4 @@
-use Rattle.std.proofs.Common.{arith}
-use Rattle.std.proofs.lemmas.Grind.{common_steps}
-use Rattle.std.proofs.lemmas.List.{take_all}
-use Rattle.argon2_base.specs.Block.{words_of}
+use Rattle.argon2_base.proofs.Imports.{arith, common_steps, take_all, words_of}
 use Rattle.argon2_base.proofs.block.Block.load.Goals as goal
 
 pub words-preserved : goal.words-preserved

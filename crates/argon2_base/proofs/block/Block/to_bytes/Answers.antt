@@ -1,8 +1,6 @@
-use Rattle.std.proofs.Common.{◌∙◌, refl, arith}
-use Rattle.std.proofs.lemmas.List.{take_all}
+use Rattle.argon2_base.proofs.Imports.{◌∙◌, refl, arith, take_all, same_len_mid}
 use Rattle.argon2_base.proofs.block_lemmas.WordBytes.{one_more_word}
 use Rattle.argon2_base.proofs.block.Block.to_bytes.Goals as goal
-use borrow.Rule.Slice.PartMut.{same_len_mid}
 
 pub words-preserved : goal.words-preserved
 words-preserved c =

@@ -1,5 +1,4 @@
-use Rattle.std.proofs.Common.{◌≡◌, ◌*◌, length, take}
-use Rattle.argon2_base.specs.Block.{bytes_of}
+use Rattle.argon2_base.proofs.Imports.{◌≡◌, ◌*◌, length, take, bytes_of}
 use Rattle.argon2_base.proofs.block.Block.to_bytes.Given as goal
 
 abbrev pub invariant-words : goal.invariant-words

@@ -1,5 +1,4 @@
-use Rattle.std.proofs.Common.{◌∙◌, ap}
-use Rattle.argon2_base.specs.Block.{perm}
+use Rattle.argon2_base.proofs.Imports.{◌∙◌, ap, perm}
 use Rattle.argon2_base.proofs.block.chains.four_rows.Goals as goal
 
 pub returns : goal.returns

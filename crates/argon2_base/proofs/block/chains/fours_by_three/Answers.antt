@@ -1,4 +1,4 @@
-use Rattle.std.proofs.Common.{◌+◌, ◌*◌, ◌/◌, ◌%◌, arith}
+use Rattle.argon2_base.proofs.Imports.{◌+◌, ◌*◌, ◌/◌, ◌%◌, arith}
 use Rattle.argon2_base.proofs.block_lemmas.ChainLemmas.{moved_lane}
 use Rattle.argon2_base.proofs.block.chains.fours_by_three.Goals as goal
 

@@ -1,5 +1,4 @@
-use Rattle.std.proofs.Common.{refl}
-use Rattle.argon2_base.specs.Block.{gb}
+use Rattle.argon2_base.proofs.Imports.{refl, gb}
 use Rattle.argon2_base.proofs.block.chains.gb.Goals as goal
 
 pub returns : goal.returns

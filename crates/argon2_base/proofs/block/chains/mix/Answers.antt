@@ -1,7 +1,5 @@
-use Rattle.std.proofs.Common.{◌≡◌, ℕ, ◌<◌, ◌%◌, ◌∙◌, inl, inr, ap, arith, bit_xor, slice_index, if◌then◌else◌}
-use Rattle.std.proofs.lemmas.Bool.{cases_lt}
-use Rattle.argon2_base.specs.Block.{by_columns, by_rows, mixed, xor_blocks}
-use Rattle.argon2_base.specs.Lanes.{written}
+use Rattle.argon2_base.proofs.Imports.{◌≡◌, ℕ, ◌<◌, ◌%◌, ◌∙◌, inl, inr, ap, arith, slice_index, if◌then◌else◌, cases_lt, by_columns, by_rows, mixed, xor_blocks, written}
+use Rattle.std.proofs.Common.{bit_xor}
 use Rattle.argon2_base.proofs.block_lemmas.MixingLemmas.{half_mixed, mixed_word, mixed_written}
 use Rattle.argon2_base.proofs.block.chains.mix.Goals as goal
 

@@ -1,4 +1,4 @@
-use Rattle.std.proofs.Common.{◌+◌, ◌*◌, arith}
+use Rattle.argon2_base.proofs.Imports.{◌+◌, ◌*◌, arith}
 use Rattle.argon2_base.proofs.block_lemmas.ChainLemmas.{group_permuted}
 use Rattle.argon2_base.proofs.block.chains.perm_fours.Goals as goal
 

@@ -1,5 +1,5 @@
-use Rattle.std.proofs.Common.{◌∙◌, ap, ap₂, arith, bit_xor, slice_index}
-use Rattle.std.proofs.lemmas.Simd.{get_or-zip2}
+use Rattle.argon2_base.proofs.Imports.{◌∙◌, ap, ap₂, arith, slice_index, get_or-zip2}
+use Rattle.std.proofs.Common.{bit_xor}
 use Rattle.argon2_base.proofs.block.chains.put.Goals as goal
 
 pub returns-then-xors-clause-here : goal.returns-then-xors-clause-here

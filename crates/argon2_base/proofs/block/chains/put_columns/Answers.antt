@@ -1,6 +1,5 @@
-use Rattle.std.proofs.Common.{◌≡◌, ◌+◌, ◌*◌, ◌/◌, ◌%◌, ◌∙◌, inl, inr, sym, ap, ap₂, arith, bit_xor, slice_index}
-use Rattle.std.proofs.lemmas.Bool.{cases_lt}
-use Rattle.argon2_base.specs.Lanes.{lane_word, written}
+use Rattle.argon2_base.proofs.Imports.{◌≡◌, ◌+◌, ◌*◌, ◌/◌, ◌%◌, ◌∙◌, inl, inr, sym, ap, ap₂, arith, slice_index, cases_lt, lane_word, written}
+use Rattle.std.proofs.Common.{bit_xor}
 use Rattle.argon2_base.proofs.block.chains.put_columns.Goals as goal
 
 pub vectors-preserved : goal.vectors-preserved

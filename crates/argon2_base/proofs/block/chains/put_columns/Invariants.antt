@@ -1,5 +1,5 @@
-use Rattle.std.proofs.Common.{◌≡◌, ℕ, ◌-◌, ◌*◌, ◌/◌, ◌%◌, ◌<◌, ◌≤◌, length, slice_index, bit_xor}
-use Rattle.argon2_base.specs.Lanes.{half_word, written}
+use Rattle.argon2_base.proofs.Imports.{◌≡◌, ℕ, ◌-◌, ◌*◌, ◌/◌, ◌%◌, ◌<◌, ◌≤◌, length, slice_index, half_word, written}
+use Rattle.std.proofs.Common.{bit_xor}
 use Rattle.argon2_base.proofs.block.chains.put_columns.Given as goal
 
 abbrev pub invariant-vectors : goal.invariant-vectors

@@ -1,6 +1,4 @@
-use Rattle.std.proofs.Common.{◌∙◌, ap, [], ◌∷◌}
-use Rattle.argon2_base.specs.Block.{perm}
-use Rattle.argon2_base.specs.Lanes.{pairs}
+use Rattle.argon2_base.proofs.Imports.{◌∙◌, ap, [], ◌∷◌, perm, pairs}
 use Rattle.argon2_base.proofs.block_lemmas.ChainLemmas.{columns_of_right_halves}
 use Rattle.argon2_base.proofs.block.chains.right_columns.Goals as goal
 

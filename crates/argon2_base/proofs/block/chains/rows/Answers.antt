@@ -1,4 +1,4 @@
-use Rattle.std.proofs.Common.{lit<}
+use Rattle.argon2_base.proofs.Imports.{lit<}
 use Rattle.argon2_base.proofs.block_lemmas.LaneLemmas.{below_eight}
 use Rattle.argon2_base.proofs.block.chains.rows.Goals as goal
 

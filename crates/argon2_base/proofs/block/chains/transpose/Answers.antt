@@ -1,5 +1,4 @@
-use Rattle.std.proofs.Common.{◌∙◌, ap₂, [], ◌∷◌}
-use Rattle.argon2_base.specs.Lanes.{exchanged_left, exchanged_right, fours, vector_words}
+use Rattle.argon2_base.proofs.Imports.{◌∙◌, ap₂, [], ◌∷◌, exchanged_left, exchanged_right, fours, vector_words}
 use Rattle.argon2_base.proofs.block_lemmas.ChainLemmas.{fours_of_transposed, vectors_of_transposed}
 use Rattle.argon2_base.proofs.block.chains.transpose.Goals as goal
 

@@ -1,6 +1,5 @@
-use Rattle.std.proofs.Common.{◌∙◌, arith, bit_xor}
-use Rattle.std.proofs.lemmas.Simd.{length-zip2}
-use Rattle.argon2_base.specs.Block.{xor_blocks}
+use Rattle.argon2_base.proofs.Imports.{◌∙◌, arith, length-zip2, xor_blocks}
+use Rattle.std.proofs.Common.{bit_xor}
 use Rattle.argon2_base.proofs.block_lemmas.LaneLemmas.{below_sixteen, in_eights}
 use Rattle.argon2_base.proofs.block.kernel.exclusive_or.Goals as goal
 

@@ -1,5 +1,4 @@
-use Rattle.std.proofs.Common.{◌+◌, ◌∙◌, arith}
-use Rattle.argon2_base.specs.Block.{gb}
+use Rattle.argon2_base.proofs.Imports.{◌+◌, ◌∙◌, arith, gb}
 use Rattle.argon2_base.proofs.block.kernel.gb_twice.Goals as goal
 
 pub returns : goal.returns

@@ -1,4 +1,4 @@
-use Rattle.std.proofs.lemmas.Simd.{get_or-chunk}
+use Rattle.argon2_base.proofs.Imports.{get_or-chunk}
 use Rattle.argon2_base.proofs.block.kernel.load.Goals as goal
 
 pub returns : goal.returns

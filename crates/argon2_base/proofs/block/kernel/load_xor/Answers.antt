@@ -1,6 +1,5 @@
-use Rattle.std.proofs.Common.{◌+◌, ◌∙◌, sym, ap₂, arith, bit_xor}
-use Rattle.std.proofs.lemmas.Simd.{get_or-zip2}
-use Rattle.argon2_base.specs.Block.{xor_blocks}
+use Rattle.argon2_base.proofs.Imports.{◌+◌, ◌∙◌, sym, ap₂, arith, get_or-zip2, xor_blocks}
+use Rattle.std.proofs.Common.{bit_xor}
 use Rattle.argon2_base.proofs.block.kernel.load_xor.Goals as goal
 
 pub returns : goal.returns

@@ -1,6 +1,4 @@
-use Rattle.std.proofs.Common.{◌∙◌, ap, arith}
-use Rattle.argon2_base.specs.Block.{by_columns, by_rows, mixed, xor_blocks}
-use Rattle.argon2_base.specs.Lanes.{words_in_eights}
+use Rattle.argon2_base.proofs.Imports.{◌∙◌, ap, arith, by_columns, by_rows, mixed, xor_blocks, words_in_eights}
 use Rattle.argon2_base.proofs.block_lemmas.MixingLemmas.{kernel_mixes}
 use Rattle.argon2_base.proofs.block.kernel.mix.Goals as goal
 

@@ -1,5 +1,4 @@
-use Rattle.std.proofs.Common.{◌∙◌, ap}
-use Rattle.argon2_base.specs.Block.{mix_diagonals, perm}
+use Rattle.argon2_base.proofs.Imports.{◌∙◌, ap, mix_diagonals, perm}
 use Rattle.argon2_base.proofs.block_lemmas.LaneLemmas.{columns_mixed, diagonals_mixed}
 use Rattle.argon2_base.proofs.block.kernel.perm.Goals as goal
 

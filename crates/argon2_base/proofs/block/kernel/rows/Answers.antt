@@ -1,5 +1,4 @@
-use Rattle.std.proofs.Common.{◌∙◌, arith}
-use Rattle.argon2_base.specs.Lanes.{words_in_eights}
+use Rattle.argon2_base.proofs.Imports.{◌∙◌, arith, words_in_eights}
 use Rattle.argon2_base.proofs.block_lemmas.LaneLemmas.{rows_from, half_row}
 use Rattle.argon2_base.proofs.block.kernel.rows.Goals as goal
 

@@ -1,6 +1,4 @@
-use Rattle.std.proofs.Common.{◌+◌, ◌++◌, ◌∙◌, ap, arith, slice_index, zero-add, length-append}
-use Rattle.std.proofs.lemmas.List.{get_or_append_left, get_or-append_right}
-use Rattle.std.proofs.lemmas.Simd.{pick_l_whole}
+use Rattle.argon2_base.proofs.Imports.{◌+◌, ◌++◌, ◌∙◌, ap, arith, slice_index, zero-add, length-append, get_or_append_left, get_or-append_right, pick_l_whole}
 use Rattle.argon2_base.proofs.block.kernel.side_by_side.Goals as goal
 
 pub returns : goal.returns

@@ -1,5 +1,4 @@
-use Rattle.std.proofs.Common.{◌∙◌, ◌≡◌, ◌<◌, ℕ, [], ◌∷◌, ap₂}
-use Rattle.argon2_base.specs.Lanes.{exchanged_left, exchanged_right, lane_word}
+use Rattle.argon2_base.proofs.Imports.{◌∙◌, ◌≡◌, ◌<◌, ℕ, [], ◌∷◌, ap₂, exchanged_left, exchanged_right, lane_word}
 use Rattle.argon2_base.proofs.block_lemmas.LaneLemmas.{below_eight, turned_lanes}
 use Rattle.argon2_base.proofs.block.kernel.transpose.Goals as goal
 

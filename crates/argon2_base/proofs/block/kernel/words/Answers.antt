@@ -1,6 +1,5 @@
-use Rattle.std.proofs.Common.{◌*◌, ◌+◌, ◌∙◌, inl, inr, sym, ap, arith, bit_xor}
-use Rattle.std.proofs.lemmas.Bool.{cases_lt}
-use Rattle.argon2_base.specs.Lanes.{words_in_eights}
+use Rattle.argon2_base.proofs.Imports.{◌*◌, ◌+◌, ◌∙◌, inl, inr, sym, ap, arith, cases_lt, words_in_eights}
+use Rattle.std.proofs.Common.{bit_xor}
 use Rattle.argon2_base.proofs.block_lemmas.LaneLemmas.{word_in_eights}
 use Rattle.argon2_base.proofs.block_lemmas.MixingLemmas.{row_stored}
 use Rattle.argon2_base.proofs.block.kernel.words.Goals as goal

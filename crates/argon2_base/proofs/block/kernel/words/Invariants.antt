@@ -1,5 +1,5 @@
-use Rattle.std.proofs.Common.{◌≡◌, ℕ, ◌+◌, ◌*◌, ◌/◌, ◌%◌, ◌<◌, slice_index, bit_xor}
-use Rattle.argon2_base.specs.Lanes.{lane_word, words_in_eights}
+use Rattle.argon2_base.proofs.Imports.{◌≡◌, ℕ, ◌+◌, ◌*◌, ◌/◌, ◌%◌, ◌<◌, slice_index, lane_word, words_in_eights}
+use Rattle.std.proofs.Common.{bit_xor}
 use Rattle.argon2_base.proofs.block.kernel.words.Given as goal
 
 abbrev pub invariant-rows : goal.invariant-rows

@@ -1,4 +1,4 @@
-use Rattle.std.proofs.Common.{arith}
+use Rattle.argon2_base.proofs.Imports.{arith}
 use Rattle.argon2_base.proofs.block_lemmas.MixingLemmas.{xored_words}
 use Rattle.argon2_base.proofs.block.kernel.xor_into.Goals as goal
 

@@ -1,5 +1,4 @@
-use Rattle.std.proofs.Common.{arith}
-use Rattle.std.proofs.lemmas.List.{length-replicate}
+use Rattle.argon2_base.proofs.Imports.{arith, length-replicate}
 use Rattle.argon2_base.proofs.phc_lemmas.ByteListLemmas.{IsDecoded, decoded_into_zeros, decode_slice_err}
 use Rattle.argon2_base.proofs.byte_list.ByteList.from_b64.Given.{Over}
 use Rattle.argon2_base.proofs.byte_list.ByteList.from_b64.Goals as goal

@@ -1,4 +1,4 @@
-use Rattle.std.proofs.Common.{rules}
+use Rattle.argon2_base.proofs.Imports.{rules}
 use Rattle.argon2_base.proofs.phc_lemmas.ByteListLemmas.{drop-filled}
 use Rattle.argon2_base.proofs.byte_list.ByteList.new.Goals as goal
 

@@ -1,4 +1,4 @@
-use Rattle.std.proofs.Common.{◌∙◌, arith}
+use Rattle.argon2_base.proofs.Imports.{◌∙◌, arith}
 use Rattle.argon2_base.proofs.phc_lemmas.Base64Lemmas.{length-strict_base64, strict_base64_written, IsUtf8-strict_base64}
 use Rattle.argon2_base.proofs.phc.bytes.base64_text.Goals as goal
 

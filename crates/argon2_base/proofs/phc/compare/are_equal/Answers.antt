@@ -1,8 +1,4 @@
-use Rattle.std.proofs.Common.{ap, arith, below_more, slice_index_or, nat_eq}
-use Rattle.std.proofs.lemmas.Bool.Decides.{same_from_decides, Decides-eqb}
-use Rattle.std.proofs.lemmas.Grind.{same_number_lists}
-use Rattle.std.proofs.lemmas.Slice.Eq.{bytes_eq-Decides}
-use Rattle.std.specs.Str.{bytes_eq}
+use Rattle.argon2_base.proofs.Imports.{ap, arith, below_more, slice_index_or, nat_eq, same_from_decides, Decides-eqb, same_number_lists, bytes_eq-Decides, bytes_eq}
 use Rattle.argon2_base.proofs.phc_lemmas.Compared.{no_difference, difference_none}
 use Rattle.argon2_base.proofs.phc.compare.are_equal.Goals as goal
 

@@ -1,4 +1,4 @@
-use Rattle.std.proofs.Common.{◌≡◌, ℕ, ◌<◌, slice_index_or}
+use Rattle.argon2_base.proofs.Imports.{◌≡◌, ℕ, ◌<◌, slice_index_or}
 use Rattle.argon2_base.proofs.phc.compare.are_equal.Given as goal
 
 abbrev pub invariant-loop-i : goal.invariant-loop-i

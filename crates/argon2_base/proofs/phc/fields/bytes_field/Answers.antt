@@ -1,6 +1,4 @@
-use Rattle.std.proofs.Common.{◌∙◌, length, sym, ap, arith}
-use Rattle.argon2_base.specs.ByteList.{list_bytes}
-use Rattle.argon2_base.specs.PhcFields.{fields_left}
+use Rattle.argon2_base.proofs.Imports.{◌∙◌, length, sym, ap, arith, list_bytes, fields_left}
 use Rattle.argon2_base.proofs.phc_lemmas.Base64Lemmas.{length-strict_base64, refused_text}
 use Rattle.argon2_base.proofs.phc_lemmas.PhcTextLemmas.{bytes_read, bytes_refused}
 use Rattle.argon2_base.proofs.phc.fields.bytes_field.Goals as goal

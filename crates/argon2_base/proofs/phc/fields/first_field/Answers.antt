@@ -1,6 +1,4 @@
-use Rattle.std.proofs.Common.{◌∙◌, ap, lit<, Some, None}
-use Rattle.std.proofs.lemmas.Str.Pattern.{split_parts}
-use Rattle.argon2_base.specs.PhcFields.{fields_of}
+use Rattle.argon2_base.proofs.Imports.{◌∙◌, ap, lit<, Some, None, split_parts, fields_of}
 use Rattle.argon2_base.proofs.phc_lemmas.Separators.{Lacks_from, slice_split-first, slice_split-lacks}
 use Rattle.argon2_base.proofs.phc.fields.first_field.Goals as goal
 

@@ -1,5 +1,4 @@
-use Rattle.std.proofs.Common.{sym, ◌∙◌, ap}
-use Rattle.argon2_base.specs.PhcFields.{fields_left}
+use Rattle.argon2_base.proofs.Imports.{sym, ◌∙◌, ap, fields_left}
 use Rattle.argon2_base.proofs.phc_lemmas.Separators.{Lacks_not}
 use Rattle.argon2_base.proofs.phc_lemmas.PhcTextLemmas.{no_list_read, list_read}
 use Rattle.argon2_base.proofs.phc.fields.params_field.Goals as goal

@@ -1,7 +1,5 @@
-use Rattle.std.proofs.Common.{[], refl, sym, ◌∙◌}
+use Rattle.argon2_base.proofs.Imports.{[], refl, sym, ◌∙◌, strict_base64, field}
 use Rattle.std.proofs.lemmas.List.{append-nil}
-use Rattle.argon2_base.specs.Texts.{strict_base64}
-use Rattle.argon2_base.specs.PhcText.{field}
 use Rattle.argon2_base.proofs.phc_lemmas.PhcTextLemmas.{none_after, left_none, none_left, salt_before_hash}
 use Rattle.argon2_base.proofs.phc.fields.salt_and_hash.Goals as goal
 

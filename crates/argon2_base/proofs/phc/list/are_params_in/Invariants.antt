@@ -1,6 +1,4 @@
-use Rattle.std.proofs.Common.{◌≡◌, ◌&&◌, length}
-use Rattle.std.specs.List.{list_all}
-use Rattle.argon2_base.specs.PhcText.{are_distinct, is_param, items_left, pairs_left}
+use Rattle.argon2_base.proofs.Imports.{◌≡◌, ◌&&◌, length, list_all, are_distinct, is_param, items_left, pairs_left}
 use Rattle.argon2_base.proofs.phc.list.are_params_in.Given as goal
 
 abbrev pub invariant-items : goal.invariant-items

@@ -1,5 +1,4 @@
-use Rattle.std.proofs.Common.{arith}
-use Rattle.std.proofs.lemmas.Str.{IsCharBoundary-after_ascii}
+use Rattle.argon2_base.proofs.Imports.{arith, IsCharBoundary-after_ascii}
 use Rattle.argon2_base.proofs.phc.list.cut.Goals as goal
 
 pub range_from-requires : goal.range_from-requires

@@ -1,5 +1,4 @@
-use Rattle.std.proofs.Common.{take}
-use Rattle.argon2_base.specs.PhcText.{Lacks}
+use Rattle.argon2_base.proofs.Imports.{take, Lacks}
 use Rattle.argon2_base.proofs.phc.list.cut.Given as goal
 
 abbrev pub invariant-loop-i : goal.invariant-loop-i

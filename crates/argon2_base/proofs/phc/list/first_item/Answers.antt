@@ -1,5 +1,4 @@
-use Rattle.std.proofs.Common.{◌∙◌, ap}
-use Rattle.argon2_base.specs.PhcText.{items_of}
+use Rattle.argon2_base.proofs.Imports.{◌∙◌, ap, items_of}
 use Rattle.argon2_base.proofs.phc_lemmas.Separators.{slice_split-first, slice_split-lacks}
 use Rattle.argon2_base.proofs.phc.list.first_item.Goals as goal
 

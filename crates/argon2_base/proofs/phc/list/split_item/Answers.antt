@@ -1,5 +1,4 @@
-use Rattle.std.proofs.Common.{◌∙◌, ap}
-use Rattle.argon2_base.specs.PhcText.{pair_of}
+use Rattle.argon2_base.proofs.Imports.{◌∙◌, ap, pair_of}
 use Rattle.argon2_base.proofs.phc_lemmas.ParamsTextLemmas.{pair_again, pair_of_name}
 use Rattle.argon2_base.proofs.phc.list.split_item.Goals as goal
 

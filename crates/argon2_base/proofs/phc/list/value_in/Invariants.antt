@@ -1,5 +1,4 @@
-use Rattle.std.proofs.Common.{◌≡◌, length}
-use Rattle.argon2_base.specs.PhcText.{value_of, items_left, pairs_left}
+use Rattle.argon2_base.proofs.Imports.{◌≡◌, length, value_of, items_left, pairs_left}
 use Rattle.argon2_base.proofs.phc.list.value_in.Given as goal
 
 abbrev pub invariant-items : goal.invariant-items

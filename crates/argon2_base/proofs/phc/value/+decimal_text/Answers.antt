@@ -1,5 +1,4 @@
-use Rattle.std.proofs.Common.{◌+◌, ◌%◌, ◌++◌, ◌∷◌, [], List, ℕ, ◌/◌, ◌∙◌, arith, sym, ap, length}
-use Rattle.std.proofs.lemmas.Fmt.{decimal_digit, decimal_step, length-decimal-le}
+use Rattle.argon2_base.proofs.Imports.{◌+◌, ◌%◌, ◌++◌, ◌∷◌, [], List, ℕ, ◌/◌, ◌∙◌, arith, sym, ap, length, decimal_digit, decimal_step, length-decimal-le}
 use Rattle.argon2_base.proofs.phc.value.+decimal_text.Goals as goal
 
 pub returns-then-n-lt10 : goal.returns-then-n-lt10

@@ -1,5 +1,4 @@
-use Rattle.std.proofs.Common.{rules, ◌≡◌, arith, sym}
-use Rattle.std.proofs.lemmas.Fmt.{parse-decimal}
+use Rattle.argon2_base.proofs.Imports.{rules, ◌≡◌, arith, sym, parse-decimal}
 use Rattle.argon2_base.proofs.phc.value.read_decimal.Goals as goal
 
 pub returns-in_default-clause-only : goal.returns-in_default-clause-only

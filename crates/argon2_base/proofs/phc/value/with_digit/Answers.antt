@@ -1,5 +1,4 @@
-use Rattle.std.proofs.Common.{◌+◌, arith, ap, length}
-use Rattle.std.proofs.lemmas.Str.{encode_ascii}
+use Rattle.argon2_base.proofs.Imports.{◌+◌, arith, ap, length, encode_ascii}
 use Rattle.argon2_base.proofs.phc.value.with_digit.Goals as goal
 
 pub push-requires : goal.push-requires

@@ -1,6 +1,4 @@
-use Rattle.std.proofs.Common.{◌≡◌, ◌∙◌, lit<, Some, None, false}
-use Rattle.std.proofs.lemmas.Str.Pattern.{strip_prefix_char}
-use Rattle.argon2_base.specs.Texts.{is_name}
+use Rattle.argon2_base.proofs.Imports.{◌≡◌, ◌∙◌, lit<, Some, None, false, strip_prefix_char, is_name}
 use Rattle.argon2_base.proofs.phc_lemmas.PhcTextLemmas.{first_and_left, flat_map-dollar, text_of_fields, from_params, from_salt, no_version, no_item}
 use Rattle.argon2_base.proofs.phc.hash.PasswordHash.new.Goals as goal
 

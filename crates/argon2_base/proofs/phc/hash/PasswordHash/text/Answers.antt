@@ -1,7 +1,4 @@
-use Rattle.std.proofs.Common.{rules, ◌≡◌, length, ap, arith}
-use Rattle.argon2_base.specs.Texts.{strict_base64}
-use Rattle.argon2_base.specs.PhcFields.{phc_of}
-use Rattle.argon2_base.specs.PhcText.{field}
+use Rattle.argon2_base.proofs.Imports.{rules, ◌≡◌, length, ap, arith, strict_base64, phc_of, field}
 use Rattle.argon2_base.proofs.phc_lemmas.PhcTextLemmas.{text_of_printed}
 use Rattle.argon2_base.proofs.phc_lemmas.Characters.{name_length}
 use Rattle.argon2_base.proofs.phc.hash.PasswordHash.text.Goals as goal

@@ -1,5 +1,4 @@
-use Rattle.std.proofs.Common.{rules}
-use Rattle.argon2_base.specs.PhcFields.{phc_of}
+use Rattle.argon2_base.proofs.Imports.{rules, phc_of}
 use Rattle.argon2_base.proofs.phc_lemmas.Equalities.{equal_phcs}
 use Rattle.argon2_base.proofs.phc.hash.PasswordHashPartialEq.eq.Goals as goal
 

@@ -1,9 +1,7 @@
-use Rattle.std.proofs.Common.{◌≡◌, refl, false, sym}
-use Rattle.std.specs.Prelude.{is_some}
-use Rattle.argon2_base.specs.PhcText.{value_of, pairs_of}
+use Rattle.argon2_base.proofs.Imports.{◌≡◌, refl, false, sym, is_some, value_of, pairs_of}
 use Rattle.argon2_base.proofs.phc_lemmas.ParamsTextLemmas.{refused_param, refused_name, refused_long, params_grown, Grows}
-use Rattle.argon2_base.proofs.phc.list.ParamsString.add.Goals as goal
 use Rattle.argon2_base.proofs.phc.list.ParamsString.add.Goals.{then-not-is_param_text-via-then-not-is_param_text, then-not-is_param_text-via-else-not-is_param_text+then-is_some}
+use Rattle.argon2_base.proofs.phc.list.ParamsString.add.Goals as goal
 
 pub returns-then-not-is_param_text-clause-when : goal.returns-then-not-is_param_text-clause-when
 returns-then-not-is_param_text-clause-when c = elim c.then-not-is_param_text.branch [

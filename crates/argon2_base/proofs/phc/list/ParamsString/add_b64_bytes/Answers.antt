@@ -1,5 +1,4 @@
-use Rattle.std.proofs.Common.{arith}
-use Rattle.argon2_base.specs.Texts.{strict_base64}
+use Rattle.argon2_base.proofs.Imports.{arith, strict_base64}
 use Rattle.argon2_base.proofs.phc_lemmas.Base64Lemmas.{length-strict_base64}
 use Rattle.argon2_base.proofs.phc_lemmas.ParamsTextLemmas.{refused_param}
 use Rattle.argon2_base.proofs.phc_lemmas.ParamsReading.{long_value}

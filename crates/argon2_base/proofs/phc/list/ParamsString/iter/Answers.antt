@@ -1,6 +1,4 @@
-use Rattle.std.proofs.Common.{◌≡◌, true, sym}
-use Rattle.std.specs.List.{list_all}
-use Rattle.argon2_base.specs.PhcText.{is_param, items_left, pairs_of, pairs_left}
+use Rattle.argon2_base.proofs.Imports.{◌≡◌, true, sym, list_all, is_param, items_left, pairs_of, pairs_left}
 use Rattle.argon2_base.proofs.phc_lemmas.ParamsTextLemmas.{all_params}
 use Rattle.argon2_base.proofs.phc_lemmas.ParamsReading.{parts_again}
 use Rattle.argon2_base.proofs.phc.list.ParamsString.iter.Goals as goal

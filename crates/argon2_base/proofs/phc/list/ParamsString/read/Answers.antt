@@ -1,6 +1,4 @@
-use Rattle.std.proofs.Common.{ap, sym, refl, Ok, ◌∙◌}
-use Rattle.std.proofs.lemmas.Bool.{false≢true}
-use Rattle.argon2_base.specs.PhcText.{ParamsText, pairs_of}
+use Rattle.argon2_base.proofs.Imports.{ap, sym, refl, Ok, ◌∙◌, false≢true, ParamsText, pairs_of}
 use Rattle.argon2_base.proofs.phc_lemmas.ParamsReading.{read_again, read_list, good_items}
 use Rattle.argon2_base.proofs.phc.list.ParamsString.read.Goals as goal
 

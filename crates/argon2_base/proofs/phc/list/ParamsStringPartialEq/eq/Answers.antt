@@ -1,8 +1,4 @@
-use Rattle.std.proofs.Common.{◌≡◌, ◌∙◌, refl, ap}
-use Rattle.std.proofs.lemmas.Bool.Decides.{same_from_decides}
-use Rattle.std.proofs.lemmas.Slice.Eq.{bytes_eq-Decides}
-use Rattle.std.specs.Str.{bytes_eq}
-use Rattle.argon2_base.specs.PhcText.{params_text, pairs_eq}
+use Rattle.argon2_base.proofs.Imports.{◌≡◌, ◌∙◌, refl, ap, same_from_decides, bytes_eq-Decides, bytes_eq, params_text, pairs_eq}
 use Rattle.argon2_base.proofs.phc_lemmas.Equalities.{pairs_eq-Decides}
 use Rattle.argon2_base.proofs.phc_lemmas.ParamsReading.{one_list}
 use Rattle.argon2_base.proofs.phc.list.ParamsStringPartialEq.eq.Goals as goal
