@@ -1,7 +1,5 @@
 -- The message of the initial hash, as it is added piece by piece.
-use Rattle.std.proofs.Common.{◌≡◌, ℕ, ◌++◌, List, []}
-use Rattle.argon2_base.specs.Blake2b.{blake2b}
-use Rattle.argon2.specs.Rfc9106.{Context, initial_hash, number, with_length}
+use Rattle.argon2.proofs.Imports.{◌≡◌, ℕ, ◌++◌, List, [], blake2b, Context, initial_hash, number, with_length}
 
 -- ten pieces, one after the other, are the initial hash's message
 pub initial_hash_of_pieces : (ctx : Context) (password salt : List ℕ) (n p m t v y len : ℕ) (secret associated hash : List ℕ)

@@ -1,17 +1,9 @@
 -- Lent memory after its first blocks were written.
-use Rattle.std.proofs.Common.{◌≡◌, ℕ, ◌+◌, ◌*◌, ◌++◌, ◌≤◌, List, [], length, map, take, drop, sym, ap, subst, ◌∙◌, arith}
-use Rattle.std.proofs.lemmas.List.{drop-map, get_or_append_left, get_or-take, length-take-le, map-append}
-use Rattle.std.proofs.lemmas.List.FromFn.{length-map-range_with_len}
-use Rattle.std.proofs.lemmas.Nat.{mul-add-lt}
+use Rattle.argon2.proofs.Imports.{◌≡◌, ℕ, ◌+◌, ◌*◌, ◌++◌, ◌≤◌, List, [], length, map, take, drop, sym, ap, subst, ◌∙◌, arith, drop-map, get_or_append_left, get_or-take, length-take-le}
+use Rattle.argon2.proofs.Imports.{map-append, length-map-range_with_len, mul-add-lt, Argon2, context_of, Context, FirstColumns, IsValid, block_count, first_block, lane_length, Memory}
+use Rattle.argon2.proofs.Imports.{matrix, matrix_of, blocks_of, KeepsOtherColumns, KeepsRest, IsBegun, Begins, BeginsLanes}
 use Rattle.std.proofs.lemmas.Slice.{drop-append-drop}
 use Rattle.std.proofs.Math.Seq.{take-append_seam}
-use Rattle.argon2.specs.declared.context.Argon2.{Argon2}
-use Rattle.argon2.specs.Argon2.{context_of}
-use Rattle.argon2.specs.Rfc9106.{Context, FirstColumns, IsValid, block_count, first_block, lane_length}
-use Rattle.argon2.specs.Layout.{Memory, matrix, matrix_of}
-use Rattle.argon2.specs.Hashing.{blocks_of, KeepsOtherColumns, KeepsRest, IsBegun}
-use Rattle.argon2.specs.Laws.{Begins}
-use Rattle.argon2.specs.Segments.{BeginsLanes}
 
 -- the matrix has as many blocks as are filled
 length-matrix_of : (ctx : Context) (password salt : List ℕ) (n : ℕ)

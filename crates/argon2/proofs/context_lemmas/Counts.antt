@@ -1,12 +1,7 @@
 -- The mixings of all segments are t * B - 2p, and two for each address block.
-use Rattle.std.proofs.Common.{◌≡◌, ℕ, zero, suc, ◌+◌, ◌-◌, ◌*◌, ◌/◌, ◌^◌, ◌<◌, ◌≤◌, inl, inr, Bool, true, false, ap, arith}
-use Rattle.std.specs.Prelude.{◌==◌, if◌then◌else◌}
-use Rattle.std.proofs.Math.Nat.{mul-le-mul, mul-le-mul_left, mul-le-mul_right}
-use Rattle.std.proofs.lemmas.Bool.{cases_lt}
-use Rattle.std.proofs.lemmas.Bool.Decides.{nat_tests}
-use Rattle.argon2.specs.Rfc9106.{Context, address_counter, block_count, is_independent, lane_length, segment_length}
-use Rattle.argon2.specs.Layout.{Sizes}
-use Rattle.argon2.specs.WatchedFilling.{address_mixings, independent_segments, mixing_calls, segment_calls, slices_calls}
+use Rattle.argon2.proofs.Imports.{◌≡◌, ℕ, zero, suc, ◌+◌, ◌-◌, ◌*◌, ◌/◌, ◌^◌, ◌<◌, ◌≤◌, inl, inr, Bool, true, false, ap, arith, ◌==◌, if◌then◌else◌, mul-le-mul, mul-le-mul_left}
+use Rattle.argon2.proofs.Imports.{mul-le-mul_right, cases_lt, nat_tests, Context, address_counter, block_count, is_independent, lane_length, segment_length, Sizes, address_mixings}
+use Rattle.argon2.proofs.Imports.{independent_segments, mixing_calls, segment_calls, slices_calls}
 
 -- the mixings of the first passes
 unfoldable pub passes_calls : Context → ℕ → ℕ

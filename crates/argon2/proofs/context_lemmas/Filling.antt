@@ -1,17 +1,9 @@
 -- Running one schedule for each pass and slice in order fills a list with the matrix.
-use Rattle.std.proofs.Common.{◌≡◌, ℕ, zero, suc, ◌+◌, ◌-◌, ◌*◌, ◌/◌, ◌%◌, ◌<◌, ◌≤◌, ◌≢◌, inl, inr, List, [], ◌∷◌, refl, sym, ap, ◌∙◌, arith}
-use Rattle.std.specs.Prelude.{slice_index_or, slice_set}
-use Rattle.std.proofs.Math.Nat.{div-eq_of_lt-le, mod-lt, div-add-mod'}
-use Rattle.std.proofs.lemmas.List.{length-set, get_or-set_same}
-use Rattle.std.proofs.lemmas.List.FromFn.{fill_by_all}
-use Rattle.std.proofs.lemmas.Nat.{mul-add-lt, div_below}
-use Rattle.std.proofs.lemmas.Bool.{cases_eq}
-use Rattle.std.proofs.lemmas.Bool.Decides.{nat_tests}
-use Rattle.argon2.specs.Rfc9106.{Context, FirstColumns, Reference, block_count, block_of, lane_length, made_block, segment_length}
-use Rattle.argon2.specs.Layout.{Memory, Sizes, matrix, reference_places}
-use Rattle.argon2.specs.Steps.{IsStep, in_memory, step, reference_place, turns, turn_count, IsSchedule, run, run_slices, run_passes}
-use Rattle.argon2.specs.WatchedFilling.{columns_before, HasBlocksUpTo}
-use Rattle.argon2.specs.Laws.{Begins, AreSchedules}
+use Rattle.argon2.proofs.Imports.{◌≡◌, ℕ, zero, suc, ◌+◌, ◌-◌, ◌*◌, ◌/◌, ◌%◌, ◌<◌, ◌≤◌, ◌≢◌, inl, inr, List, [], ◌∷◌, refl, sym, ap, ◌∙◌, arith, slice_index_or, slice_set, div-eq_of_lt-le}
+use Rattle.argon2.proofs.Imports.{mod-lt, length-set, get_or-set_same, fill_by_all, mul-add-lt, div_below, cases_eq, nat_tests, Context, FirstColumns, Reference, block_count, block_of}
+use Rattle.argon2.proofs.Imports.{lane_length, made_block, segment_length, Memory, Sizes, matrix, reference_places, IsStep, in_memory, step, reference_place, turns, turn_count, IsSchedule}
+use Rattle.argon2.proofs.Imports.{run, run_slices, run_passes, columns_before, HasBlocksUpTo, Begins, AreSchedules}
+use Rattle.std.proofs.Math.Nat.{div-add-mod'}
 use Rattle.argon2.proofs.recurrence.PermittedPlaces.{InSlice}
 use Rattle.argon2.proofs.recurrence.Sources.{AgreeOn, made_cong, reference_of_cong}
 use Rattle.argon2.proofs.context_lemmas.Schedules.{turn_column, turns-same, turns-other, MayRun, MayRun-tail, MayRun-from, head_step, turn_count-le, set_apart}

@@ -1,13 +1,6 @@
 -- Writing the first two columns of a lane after those of the lanes before.
-use Rattle.std.proofs.Common.{◌≡◌, ℕ, ◌+◌, ◌*◌, ◌^◌, ◌<◌, ◌≤◌, ◌≢◌, inl, inr, List, [], length, ◌∙◌, arith}
-use Rattle.std.specs.Prelude.{slice_index_or, slice_set}
-use Rattle.std.proofs.lemmas.Grind.{common_steps}
-use Rattle.std.proofs.lemmas.Bool.{cases_eq}
-use Rattle.std.proofs.lemmas.List.{get_or-set_other}
-use Rattle.std.proofs.lemmas.Nat.{same_from_place}
-use Rattle.std.proofs.Math.Nat.{mul-le-mul_left, mul-le-mul_right}
-use Rattle.argon2.specs.Rfc9106.{Context, lane_length}
-use Rattle.argon2.specs.Layout.{Sizes}
+use Rattle.argon2.proofs.Imports.{◌≡◌, ℕ, ◌+◌, ◌*◌, ◌^◌, ◌<◌, ◌≤◌, ◌≢◌, inl, inr, List, [], length, ◌∙◌, arith, slice_index_or, slice_set, common_steps, cases_eq, get_or-set_other}
+use Rattle.argon2.proofs.Imports.{same_from_place, mul-le-mul_left, mul-le-mul_right, Context, lane_length, Sizes}
 
 -- lanes that have no more blocks than they have columns end where a number of 32 bits does
 pub lane_fits : (ctx : Context) → Sizes ctx → (lane width : ℕ) → lane < ctx.p_cost → width ≤ lane_length ctx

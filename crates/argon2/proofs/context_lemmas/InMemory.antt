@@ -1,14 +1,7 @@
 -- What a step reads of a memory, by places.
-use Rattle.std.proofs.Common.{◌≡◌, ℕ, ◌+◌, ◌*◌, ◌<◌, ◌&&◌, List, [], length, map, refl, sym, ap, ◌∙◌, arith}
-use Rattle.std.specs.Prelude.{slice_index, slice_index_or, nat_lt, ◌==◌, if◌then◌else◌}
-use Rattle.std.proofs.lemmas.Nat.{mul-add-lt}
-use Rattle.std.proofs.lemmas.Bool.Decides.{nat_tests}
-use Rattle.std.proofs.lemmas.List.{get_or-map}
-use Rattle.argon2_base.proofs.block_lemmas.MixingLaws.{xor_blocks-comm}
-use Rattle.argon2_base.specs.Block.{mixed, xor_blocks}
-use Rattle.argon2.specs.Rfc9106.{Context, block_count, lane_length, made_block, previous, reference, reference_of, reference_word}
-use Rattle.argon2.specs.Layout.{Memory, place_of}
-use Rattle.argon2.specs.Steps.{in_memory, previous_place, reference_place}
+use Rattle.argon2.proofs.Imports.{◌≡◌, ℕ, ◌+◌, ◌*◌, ◌<◌, ◌&&◌, List, [], length, map, refl, sym, ap, ◌∙◌, arith, slice_index, slice_index_or, nat_lt, ◌==◌, if◌then◌else◌, mul-add-lt}
+use Rattle.argon2.proofs.Imports.{nat_tests, get_or-map, xor_blocks-comm, mixed, xor_blocks, Context, block_count, lane_length, made_block, previous, reference, reference_of, reference_word}
+use Rattle.argon2.proofs.Imports.{Memory, place_of, in_memory, previous_place, reference_place}
 
 -- the place of a lane and a column is within the memory
 pub place_below : (ctx : Context) (lane column : ℕ) → lane < ctx.p_cost → column < lane_length ctx

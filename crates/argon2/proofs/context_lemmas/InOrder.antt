@@ -1,12 +1,6 @@
 -- How far the memory and the positions are filled while the lanes of a slice come one after the other.
-use Rattle.std.proofs.Common.{◌≡◌, ℕ, suc, ◌+◌, ◌*◌, ◌<◌, ◌≤◌, ◌≢◌, List, subst, sym, add-one, arith}
-use Rattle.std.specs.Prelude.{slice_set}
-use Rattle.std.proofs.lemmas.Bool.Decides.{nat_tests}
-use Rattle.argon2.specs.Rfc9106.{Context, FirstColumns, segment_length}
-use Rattle.argon2.specs.Layout.{Memory, Sizes}
-use Rattle.argon2.specs.Laws.{Begins}
-use Rattle.argon2.specs.WatchedFilling.{columns_before, in_order, position_index, IsFilledFrom, IsFilledUpTo}
-use Rattle.argon2.specs.Steps.{IsStep, reference_place, step}
+use Rattle.argon2.proofs.Imports.{◌≡◌, ℕ, suc, ◌+◌, ◌*◌, ◌<◌, ◌≤◌, ◌≢◌, List, subst, sym, add-one, arith, slice_set, nat_tests, Context, FirstColumns, segment_length, Memory, Sizes, Begins}
+use Rattle.argon2.proofs.Imports.{columns_before, in_order, position_index, IsFilledFrom, IsFilledUpTo, IsStep, reference_place, step}
 use Rattle.argon2.proofs.recurrence.PermittedPlaces.{InSlice}
 use Rattle.argon2.proofs.context_lemmas.Filling.{filled_at_first, filled_at_last, next_pass, step_answers, step_fills, turn_count-later_slice, HasBlocksUpTo-like}
 use Rattle.argon2.proofs.context_lemmas.ReferencePlaces.{first_positions, next_positions, step_positions, HasPositionsUpTo-like}

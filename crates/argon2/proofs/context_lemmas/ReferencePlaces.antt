@@ -1,13 +1,7 @@
 -- The places that the steps record are those of the recurrence's references.
-use Rattle.std.proofs.Common.{◌≡◌, ℕ, suc, ◌+◌, ◌*◌, ◌<◌, ◌≤◌, ◌≢◌, inl, inr, List, length, sym, ◌∙◌, arith}
-use Rattle.std.specs.Prelude.{slice_set}
-use Rattle.std.proofs.lemmas.List.{length-set, get_or-set_same, get_or-set_other}
-use Rattle.std.proofs.lemmas.Nat.{mul-add-lt, same_from_place}
-use Rattle.std.proofs.lemmas.Bool.{cases_eq}
-use Rattle.argon2.specs.Rfc9106.{Context, FirstColumns, block_count, lane_length}
-use Rattle.argon2.specs.Layout.{Sizes, reference_places}
-use Rattle.argon2.specs.Steps.{IsStep}
-use Rattle.argon2.specs.WatchedFilling.{columns_before, place_count, position_index, HasPositionsUpTo}
+use Rattle.argon2.proofs.Imports.{◌≡◌, ℕ, suc, ◌+◌, ◌*◌, ◌<◌, ◌≤◌, ◌≢◌, inl, inr, List, length, sym, ◌∙◌, arith, slice_set, length-set, get_or-set_same, get_or-set_other, mul-add-lt}
+use Rattle.argon2.proofs.Imports.{same_from_place, cases_eq, Context, FirstColumns, block_count, lane_length, Sizes, reference_places, IsStep, columns_before, place_count, position_index}
+use Rattle.argon2.proofs.Imports.{HasPositionsUpTo}
 use Rattle.argon2.proofs.context_lemmas.Filling.{turn_count-later_slice, turn_count-later_pass}
 use Rattle.argon2.proofs.context_lemmas.InMemory.{place_below}
 

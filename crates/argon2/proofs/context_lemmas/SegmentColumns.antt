@@ -1,12 +1,7 @@
 -- The columns of a segment, by their index in it.
-use Rattle.std.proofs.Common.{◌≡◌, ℕ, zero, suc, refl, ◌+◌, ◌-◌, ◌*◌, ◌/◌, ◌%◌, ◌<◌, ◌≤◌, ◌≢◌, ◌⊎◌, arith}
-use Rattle.std.proofs.lemmas.Bool.Decides.{nat_tests}
-use Rattle.std.proofs.Math.Nat.{mod-eq-sub-div-mul, mod-lt, mul-le-mul_right}
-use Rattle.std.proofs.lemmas.Nat.{div-add-mod', div-mul-add, mod-mul-add, mul-add-lt}
-use Rattle.argon2.specs.Rfc9106.{Context, segment_length}
-use Rattle.argon2.specs.Layout.{Sizes}
-use Rattle.argon2.specs.SegmentSteps.{column_of, IsStepAt}
-use Rattle.argon2.specs.declared.context.fill.Step.{Step}
+use Rattle.argon2.proofs.Imports.{◌≡◌, ℕ, zero, suc, refl, ◌+◌, ◌-◌, ◌*◌, ◌/◌, ◌%◌, ◌<◌, ◌≤◌, ◌≢◌, ◌⊎◌, arith, nat_tests, mod-eq-sub-div-mul, mod-lt, mul-le-mul_right, div-mul-add}
+use Rattle.argon2.proofs.Imports.{mod-mul-add, mul-add-lt, Context, segment_length, Sizes, column_of, IsStepAt, Step}
+use Rattle.std.proofs.lemmas.Nat.{div-add-mod'}
 use Rattle.argon2.proofs.recurrence.Addresses.{few_mixings, next_mixings, same_addresses, same_mixings}
 use Rattle.argon2.proofs.recurrence.PermittedPlaces.{InSlice, in_slice, get_or-permitted, length-permitted}
 

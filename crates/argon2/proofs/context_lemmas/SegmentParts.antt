@@ -1,17 +1,7 @@
 -- A step on the parts of a memory is that step on the memory.
-use Rattle.std.proofs.Common.{◌≡◌, ℕ, suc, ◌+◌, ◌*◌, ◌<◌, ◌≢◌, inl, inr, List, [], length, sym, ◌∙◌, arith}
-use Rattle.std.specs.Prelude.{slice_index_or, slice_set, ◌==◌, if◌then◌else◌}
-use Rattle.std.proofs.lemmas.Nat.{mul-add-lt}
-use Rattle.std.proofs.lemmas.Bool.{cases_eq}
-use Rattle.std.proofs.lemmas.Bool.Decides.{nat_tests}
-use Rattle.std.proofs.lemmas.List.{get_or-set_other, get_or-set_same}
-use Rattle.argon2.specs.Rfc9106.{Context, FirstColumns, block_count, lane_length, made_block, segment_length}
-use Rattle.argon2.specs.Layout.{Memory, Sizes}
-use Rattle.argon2.specs.Segments.{AreParts}
-use Rattle.argon2.specs.SegmentSteps.{column_of, IsStepAt}
-use Rattle.argon2.specs.Steps.{IsStep, in_memory, step}
-use Rattle.argon2.specs.WatchedFilling.{HasBlocksUpTo, columns_before}
-use Rattle.argon2.specs.declared.context.fill.Step.{Step}
+use Rattle.argon2.proofs.Imports.{◌≡◌, ℕ, suc, ◌+◌, ◌*◌, ◌<◌, ◌≢◌, inl, inr, List, [], length, sym, ◌∙◌, arith, slice_index_or, slice_set, ◌==◌, if◌then◌else◌, mul-add-lt, cases_eq}
+use Rattle.argon2.proofs.Imports.{nat_tests, get_or-set_other, get_or-set_same, Context, FirstColumns, block_count, lane_length, made_block, segment_length, Memory, Sizes, AreParts}
+use Rattle.argon2.proofs.Imports.{column_of, IsStepAt, IsStep, in_memory, step, HasBlocksUpTo, columns_before, Step}
 use Rattle.argon2.proofs.recurrence.PermittedPlaces.{InSlice}
 use Rattle.argon2.proofs.recurrence.Sources.{Reads-place, reference_reads}
 use Rattle.argon2.proofs.context_lemmas.Filling.{step_fills}

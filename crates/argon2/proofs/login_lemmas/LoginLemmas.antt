@@ -1,20 +1,8 @@
 -- One login as a step.
-use Rattle.std.proofs.Common.{◌≡◌, ℕ, List, Option, Some, None, Result, Ok, ◌⊎◌, arith}
-use Rattle.std.specs.Prelude.{◌≢◌, IfOk, IsSomeAnd, MatchResult}
-use Rattle.std.specs.FinMap.{get, insert}
-use Rattle.argon2_base.specs.PhcFields.{phc_of}
-use Rattle.argon2_base.specs.PhcText.{Phc}
+use Rattle.argon2.proofs.Imports.{◌≡◌, ℕ, List, Option, Some, None, Result, Ok, ◌⊎◌, arith, ◌≢◌, IfOk, IsSomeAnd, MatchResult, get, insert, phc_of, Phc, OutOfMemory, PasswordHash, Accepted}
+use Rattle.argon2.proofs.Imports.{Current, Kept, Rehashed, LoginError, Refused, AcceptsBy, AcceptedStep, HasPassword, LoginAnswer, LoginStep, logging_in, Store, IsCurrent, Leaves, Target}
+use Rattle.argon2.proofs.Imports.{IsTarget, hash_value, IsHashAnswer}
 use Rattle.argon2_base.specs.declared.error.password_hash.Error.{Error}
-use Rattle.argon2_base.specs.declared.error.password_hash.Error.TheVariants.{OutOfMemory}
-use Rattle.argon2_base.specs.declared.phc.hash.PasswordHash.{PasswordHash}
-use Rattle.argon2.specs.declared.login.answers.Accepted.{Accepted}
-use Rattle.argon2.specs.declared.login.answers.Accepted.TheVariants.{Current, Kept, Rehashed}
-use Rattle.argon2.specs.declared.login.answers.LoginError.{LoginError}
-use Rattle.argon2.specs.declared.login.answers.LoginError.TheVariants.{Refused}
-use Rattle.argon2.specs.StoredTexts.{AcceptsBy}
-use Rattle.argon2.specs.Login.{AcceptedStep, HasPassword, LoginAnswer, LoginStep, logging_in}
-use Rattle.argon2.specs.NamedTexts.{Store, IsCurrent, Leaves}
-use Rattle.argon2.specs.TextHashing.{Target, IsTarget, hash_value, IsHashAnswer}
 use Rattle.argon2.proofs.login_lemmas.Stores.{insert-same}
 use Rattle.argon2.proofs.password_hash_lemmas.MadeValues.{made_accepts, made_shows}
 

@@ -1,18 +1,7 @@
 -- What each call keeps of a name, and so every list of calls.
-use Rattle.std.proofs.Common.{arith, ◌≡◌, ◌≢◌, ℕ, ◌≤◌, List, [], ◌∷◌, length, Option, Some, None, Result, Ok, Err, refl, ap, ◌∙◌}
-use Rattle.std.proofs.lemmas.Slice.Eq.{bytes_eq-Decides}
-use Rattle.std.specs.Prelude.{IfSome, IsSomeAnd}
-use Rattle.std.specs.FinMap.{get, get-empty}
-use Rattle.std.specs.Cmp.Lexicographic.{slice_cmp}
-use Rattle.std.specs.Ordering.{nat_cmp}
-use Rattle.argon2_base.specs.PhcText.{Phc, IsPhc, HasBytes, phc_text}
-use Rattle.argon2.specs.declared.login.answers.Accepted.{Accepted}
-use Rattle.argon2.specs.declared.login.answers.Accepted.TheVariants.{Current, Rehashed, Kept}
-use Rattle.argon2.specs.declared.login.answers.LoginError.{LoginError}
-use Rattle.argon2.specs.StoredTexts.{AcceptsBy, Accepts}
-use Rattle.argon2.specs.Login.{Event, adding, logging_in, AddStep, LoginAnswer, LoginStep}
-use Rattle.argon2.specs.NamedTexts.{IsCurrent, Store, newest}
-use Rattle.argon2.specs.TextHashing.{Target, hash_value}
+use Rattle.argon2.proofs.Imports.{arith, ◌≡◌, ◌≢◌, ℕ, ◌≤◌, List, [], ◌∷◌, length, Option, Some, None, Result, Ok, Err, refl, ap, ◌∙◌, bytes_eq-Decides, IfSome, IsSomeAnd, get, get-empty}
+use Rattle.argon2.proofs.Imports.{slice_cmp, nat_cmp, Phc, IsPhc, HasBytes, phc_text, Accepted, Current, Rehashed, Kept, LoginError, AcceptsBy, Accepts, Event, adding, logging_in, AddStep}
+use Rattle.argon2.proofs.Imports.{LoginAnswer, LoginStep, IsCurrent, Store, newest, Target, hash_value}
 use Rattle.argon2.specs.Runs.{Run, source, accepted, IsFrom}
 use Rattle.argon2.proofs.login_lemmas.Stores.{get-set}
 

@@ -1,27 +1,17 @@
 -- Stores: one name set, names added, and the tree that a store stands for.
-use Rattle.std.proofs.Common.{◌≡◌, ℕ, List, [], ◌∷◌, Option, Some, None, Bool, true, false, if◌then◌else◌, string_bytes, refl, sym, ap, ◌∙◌, arith}
-use Rattle.std.proofs.lemmas.Bool.{and_parts}
-use Rattle.std.proofs.lemmas.Map.Text.{is_eq-slice_cmp}
-use Rattle.std.proofs.lemmas.Slice.Eq.{bytes_eq-Decides}
-use Rattle.std.specs.Prelude.{String, IsSome}
+use Rattle.argon2.proofs.Imports.{◌≡◌, ℕ, List, [], ◌∷◌, Option, Some, None, Bool, true, false, if◌then◌else◌, string_bytes, refl, sym, ap, ◌∙◌, arith, and_parts, is_eq-slice_cmp}
+use Rattle.argon2.proofs.Imports.{bytes_eq-Decides, String, IsSome, slice_cmp, nat_list_cmp_total, nat_list_eq_equiv, empty, get, insert, entries, entries-from_sorted, find, from_sorted}
+use Rattle.argon2.proofs.Imports.{get-from_sorted, is_sorted, get-empty, get-from_entries, get-insert, same_map, slice_cmp-IsAntisymmetric, nat_cmp-IsAntisymmetric, AllByRecursion, is_some}
+use Rattle.argon2.proofs.Imports.{option_map, option_or, is_lt, nat_cmp, phc_of, Phc, PasswordHash, Store, KeepsOthers, with_texts, named_values, values_of}
 use Rattle.std.specs.BTreeMap.{BTreeMap, IsOrdered, is_at, get_by_text}
-use Rattle.std.specs.Cmp.Lexicographic.{slice_cmp, nat_list_cmp_total, nat_list_eq_equiv}
 use Rattle.std.specs.FinMap.Entries.{below_all}
-use Rattle.std.specs.FinMap.{empty, get, insert, entries, entries-from_sorted, find, from_sorted, get-from_sorted, is_sorted, get-empty, get-from_entries, get-insert, same_map, slice_cmp-IsAntisymmetric, nat_cmp-IsAntisymmetric}
-use Rattle.std.specs.List.{AllByRecursion}
 use Rattle.std.specs.List.Sorted.{IsStrictlySortedBy}
 use Rattle.std.specs.Map.{update, lookup, keys_of}
-use Rattle.std.specs.Option.{is_some, option_map, option_or}
 use Rattle.std.specs.Cmp.{Equal-is}
-use Rattle.std.specs.Ordering.{is_lt, nat_cmp}
 use Rattle.std.specs.declared.cmp.Ordering.TheVariants.{Equal, Less}
 use Rattle.std.specs.String.{string_cmp}
 use Rattle.std.specs.Str.{bytes_eq}
-use Rattle.argon2_base.specs.PhcFields.{phc_of}
-use Rattle.argon2_base.specs.PhcText.{Phc}
-use Rattle.argon2_base.specs.declared.phc.hash.PasswordHash.{PasswordHash}
 use Rattle.argon2.proofs.params_lemmas.ListReading.{or_none}
-use Rattle.argon2.specs.NamedTexts.{Store, KeepsOthers, with_texts, named_values, values_of}
 
 -- what a store with one name set has
 pub get-set : (m : Store) (n : List ℕ) (v : Phc) (q : List ℕ) →

@@ -1,14 +1,8 @@
 -- What parameters are listed as is in the grammar.
-use Rattle.std.proofs.Common.{◌≡◌, ℕ, ◌+◌, ◌^◌, ◌<◌, ◌≤◌, true, List, [], ◌∷◌, length, refl, arith, length-append}
-use Rattle.std.proofs.lemmas.Bool.{le-leb}
+use Rattle.argon2.proofs.Imports.{◌≡◌, ℕ, ◌+◌, ◌^◌, ◌<◌, ◌≤◌, true, List, [], ◌∷◌, length, refl, arith, le-leb, decimal, list_all, sum_by, sum_by-cons, IsBytes, is_value, is_value_char}
+use Rattle.argon2.proofs.Imports.{strict_base64, Pair, are_params, params_text, is_param, are_distinct, item, parameter_items, length-strict_base64}
+use Rattle.std.proofs.Common.{length-append}
 use Rattle.std.proofs.lemmas.Fmt.{decimal_nonempty, length-decimal-le}
-use Rattle.std.specs.Fmt.{decimal}
-use Rattle.std.specs.List.{list_all, sum_by}
-use Rattle.std.proofs.lemmas.List.Sums.{sum_by-cons}
-use Rattle.argon2_base.specs.Texts.{IsBytes, is_value, is_value_char, strict_base64}
-use Rattle.argon2_base.specs.PhcText.{Pair, are_params, params_text, is_param, are_distinct, item}
-use Rattle.argon2.specs.ListedParameters.{parameter_items}
-use Rattle.argon2_base.proofs.phc_lemmas.Base64Lemmas.{length-strict_base64}
 use Rattle.argon2_base.proofs.phc_lemmas.ValueCharacters.{decimal_chars, base64_chars}
 
 -- a cost under its name

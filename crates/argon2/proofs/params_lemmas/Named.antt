@@ -1,13 +1,8 @@
 -- Algorithms by their names and versions by their numbers.
-use Rattle.std.proofs.Common.{◌≡◌, ◌≢◌, ℕ, List, Some, None, Result, Ok, Err, arith}
-use Rattle.std.specs.Result.{result_ok}
-use Rattle.std.proofs.lemmas.Bool.Decides.{nat_tests}
-use Rattle.std.proofs.lemmas.Slice.Eq.{bytes_eq-Decides}
-use Rattle.argon2.specs.declared.algorithm.Algorithm.{Algorithm}
+use Rattle.argon2.proofs.Imports.{◌≡◌, ◌≢◌, ℕ, List, Some, None, Result, Ok, Err, arith, result_ok, nat_tests, bytes_eq-Decides, Algorithm, Version, IsReadBy, algorithm_name}
+use Rattle.argon2.proofs.Imports.{algorithm_named, version_number, version_numbered}
 use Rattle.argon2.specs.declared.algorithm.Algorithm.TheVariants.{Argon2d, Argon2i, Argon2id}
-use Rattle.argon2.specs.declared.version.Version.{Version}
 use Rattle.argon2.specs.declared.version.Version.TheVariants.{V0x10, V0x13}
-use Rattle.argon2.specs.Settings.{IsReadBy, algorithm_name, algorithm_named, version_number, version_numbered}
 use Rattle.argon2_base.specs.declared.error.password_hash.Error.{Error as HashError}
 use Rattle.argon2_base.specs.declared.error.password_hash.Error.TheVariants.{Algorithm as NoAlgorithm}
 

@@ -1,14 +1,7 @@
 -- What parameters are listed as is read as the same.
-use Rattle.std.proofs.Common.{◌≡◌, ℕ, ◌^◌, ◌<◌, ◌≤◌, List, [], ◌∷◌, length, refl, arith, Option, None, Ok, Some}
-use Rattle.std.proofs.lemmas.Bool.Decides.{nat_tests}
-use Rattle.std.specs.Prelude.{IsNone}
-use Rattle.std.specs.Fmt.{decimal}
-use Rattle.argon2_base.specs.Texts.{IsBytes}
-use Rattle.argon2_base.proofs.phc_lemmas.Base64Lemmas.{short_bytes_again}
-use Rattle.argon2_base.proofs.phc_lemmas.DecimalLemmas.{number_again}
-use Rattle.argon2_base.specs.Texts.{number_of, short_bytes, strict_base64}
-use Rattle.argon2.specs.ListedParameters.{parameter_items, params_of}
-use Rattle.argon2.specs.Settings.{first_fault, cost_parameters}
+use Rattle.argon2.proofs.Imports.{◌≡◌, ℕ, ◌^◌, ◌<◌, ◌≤◌, List, [], ◌∷◌, length, refl, arith, Option, None, Ok, Some, nat_tests, IsNone, decimal, IsBytes, short_bytes_again, number_again}
+use Rattle.argon2.proofs.Imports.{number_of, strict_base64, parameter_items, params_of, first_fault, cost_parameters}
+use Rattle.argon2_base.specs.Texts.{short_bytes}
 
 -- costs that are valid with an output length are valid without one
 pub valid_without : (m t p : ℕ) (o : Option ℕ) → IsNone (first_fault m t p o) → first_fault m t p None ≡ None

@@ -1,14 +1,10 @@
 -- What is read as a key identifier or as associated data.
-use Rattle.std.proofs.Common.{◌≡◌, ℕ, ◌≤◌, List, length, None, Some, Ok, arith}
-use Rattle.std.proofs.lemmas.List.{length-take}
-use Rattle.argon2_base.specs.Texts.{IsBytes, short_bytes}
-use Rattle.argon2_base.specs.ByteList.{base64_length}
+use Rattle.argon2.proofs.Imports.{◌≡◌, ℕ, ◌≤◌, List, length, None, Some, Ok, arith, length-take, IsBytes, base64_length, short_bytes_again, short_bytes_refused, own_bytes}
+use Rattle.argon2_base.specs.Texts.{short_bytes}
 use Rattle.argon2_base.specs.declared.error.Error.{Error}
 use Rattle.argon2_base.specs.declared.error.Error.TheVariants.{B64Encoding}
-use Rattle.argon2_base.proofs.phc_lemmas.Base64Lemmas.{short_bytes_again, short_bytes_refused}
 use Rattle.argon2.specs.declared.params.short_bytes.ShortBytes.{ShortBytes}
 use Rattle.argon2.specs.Params.{IsBase64Fault, IsOfText}
-use Rattle.argon2.specs.Argon2.{own_bytes}
 
 -- a refused text is the Base64 of no bytes
 pub text_refused : (most : ℕ) (s : List ℕ) (e : Error) → IsBytes s → IsBase64Fault (base64_length most) s e

@@ -1,11 +1,5 @@
 -- What reading a stored value gives.
-use Rattle.std.proofs.Common.{◌≡◌, ℕ, List, length, Option, Result, Ok, Err, refl, arith}
-use Rattle.std.specs.Option.{option_map}
-use Rattle.argon2_base.specs.Error.{Fault}
-use Rattle.argon2_base.specs.PhcText.{Pair, Phc}
-use Rattle.argon2.specs.Settings.{Parameters, Settings}
-use Rattle.argon2.specs.ListedParameters.{params_of}
-use Rattle.argon2.specs.StoredTexts.{result_and_then, shown_settings}
+use Rattle.argon2.proofs.Imports.{◌≡◌, ℕ, List, length, Option, Result, Ok, Err, refl, arith, option_map, Fault, Pair, Phc, Parameters, Settings, params_of, result_and_then, shown_settings}
 
 -- what is read is read of something
 pub read_ok : {X Y : Type 0} (r : Result X Fault) (next : X → Result Y Fault) (y : Y) → Ok y ≡ result_and_then r next

@@ -1,11 +1,7 @@
 -- Settings that are asked for.
-use Rattle.std.proofs.Common.{◌≡◌, ℕ, List, Option, Some, Result, Ok, Err, refl}
+use Rattle.argon2.proofs.Imports.{◌≡◌, ℕ, List, Option, Some, Result, Ok, Err, refl, outcome_of, Algorithm, IsReadBy, algorithm_name, algorithm_or_default}
 use Rattle.argon2_base.specs.declared.error.password_hash.Error.{Error}
 use Rattle.argon2_base.specs.declared.error.password_hash.Error.TheVariants.{Algorithm as NoAlgorithm}
-use Rattle.argon2_base.specs.Error.{outcome_of}
-use Rattle.argon2.specs.declared.algorithm.Algorithm.{Algorithm}
-use Rattle.argon2.specs.Settings.{IsReadBy, algorithm_name}
-use Rattle.argon2.specs.TextHashing.{algorithm_or_default}
 use Rattle.argon2.proofs.params_lemmas.Named.{algorithm_named-text}
 
 -- an algorithm that is asked for by its name

@@ -1,8 +1,5 @@
 -- What hashing answers, by its steps.
-use Rattle.std.proofs.Common.{◌≡◌, ℕ, ◌≤◌, List, length, Ok, arith}
-use Rattle.std.proofs.lemmas.Bool.Decides.{nat_tests}
-use Rattle.argon2_base.specs.PhcText.{Phc}
-use Rattle.argon2.specs.TextHashing.{Target, tag_length, hash_value, hash_outcome}
+use Rattle.argon2.proofs.Imports.{◌≡◌, ℕ, ◌≤◌, List, length, Ok, arith, nat_tests, Phc, Target, tag_length, hash_value, hash_outcome}
 
 -- the answer if a value was made
 pub answer_made : (target : Target) (password salt : List ℕ) → 8 ≤ length salt → length salt ≤ 48

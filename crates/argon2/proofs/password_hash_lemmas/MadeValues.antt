@@ -1,23 +1,10 @@
 -- What is made is in the grammar, is accepted, and shows the settings.
-use Rattle.std.proofs.Common.{◌≡◌, ℕ, ◌^◌, ◌<◌, ◌≤◌, true, List, length, Option, Some, None, Result, Ok, refl, sym, ap, arith}
-use Rattle.std.specs.Prelude.{IsNone}
-use Rattle.std.proofs.lemmas.Bool.Decides.{nat_tests}
-use Rattle.std.proofs.lemmas.List.{length-take}
-use Rattle.argon2_base.specs.Texts.{IsBytes, is_name}
-use Rattle.argon2_base.specs.ByteList.{list_bytes}
+use Rattle.argon2.proofs.Imports.{◌≡◌, ℕ, ◌^◌, ◌<◌, ◌≤◌, true, List, length, Option, Some, None, Result, Ok, refl, sym, ap, arith, IsNone, nat_tests, length-take, IsBytes, is_name}
+use Rattle.argon2.proofs.Imports.{list_bytes, HasBytes, IsPhc, Pair, Phc, phc_text, Algorithm, Version, Accepts, AcceptsBy, shown_settings, Argon2, context_with, settings_of, Parameters}
+use Rattle.argon2.proofs.Imports.{algorithm_name, first_fault, version_number, tag_of, list_of, params_of, Target, IsTarget, target_of, tag_length, with_tag_length, hash_value}
 use Rattle.argon2_base.specs.declared.byte_list.ByteList.{ByteList}
-use Rattle.argon2_base.specs.PhcText.{HasBytes, IsPhc, Pair, Phc, phc_text}
 use Rattle.argon2_base.specs.declared.error.Error.{Error}
 use Rattle.argon2_base.specs.declared.error.password_hash.Error.{Error as HashError}
-use Rattle.argon2.specs.declared.algorithm.Algorithm.{Algorithm}
-use Rattle.argon2.specs.declared.version.Version.{Version}
-use Rattle.argon2.specs.StoredTexts.{Accepts, AcceptsBy, shown_settings}
-use Rattle.argon2.specs.declared.context.Argon2.{Argon2}
-use Rattle.argon2.specs.Argon2.{context_with, settings_of}
-use Rattle.argon2.specs.Settings.{Parameters, algorithm_name, first_fault, version_number}
-use Rattle.argon2.specs.Rfc9106.{tag_of}
-use Rattle.argon2.specs.ListedParameters.{list_of, params_of}
-use Rattle.argon2.specs.TextHashing.{Target, IsTarget, target_of, tag_length, with_tag_length, hash_value}
 use Rattle.argon2.proofs.params_lemmas.ListedLemmas.{listed_good}
 use Rattle.argon2.proofs.params_lemmas.Named.{algorithm_named-name, version_numbered-number}
 use Rattle.argon2.proofs.params_lemmas.ReadAgain.{read_again}

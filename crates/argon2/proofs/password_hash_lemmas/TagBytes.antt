@@ -1,14 +1,9 @@
 -- How long a tag is that fits into a text, and that it is of bytes.
-use Rattle.std.proofs.lemmas.Grind.{common_steps}
-use Rattle.std.proofs.Common.{◌-◌, ◌≡◌, ℕ, zero, suc, ◌+◌, ◌*◌, ◌≤◌, List, [], ◌∷◌, ◌++◌, length, take, refl, arith, length-append}
-use Rattle.std.proofs.lemmas.List.{length-take}
+use Rattle.argon2.proofs.Imports.{common_steps, ◌-◌, ◌≡◌, ℕ, zero, suc, ◌+◌, ◌*◌, ◌≤◌, List, [], ◌∷◌, ◌++◌, length, take, refl, arith, length-take, flat_map, IsBytes, blake2b, blocks}
+use Rattle.argon2.proofs.Imports.{compress, hash_blocks, initial_state, bytes_of, Context, first_block, last_block, tag_of}
+use Rattle.std.proofs.Common.{length-append}
 use Rattle.std.specs.Int.{w32, w64, to_le_bytes, bytes_low_first}
-use Rattle.std.specs.List.{flat_map}
-use Rattle.argon2_base.specs.Texts.{IsBytes}
-use Rattle.argon2_base.specs.Blake2b.{blake2b, blocks, compress, hash_blocks, initial_state}
-use Rattle.argon2_base.specs.Block.{bytes_of}
 use Rattle.argon2_base.proofs.blake2b_lemmas.Pieces.{long_hash_short}
-use Rattle.argon2.specs.Rfc9106.{Context, first_block, last_block, tag_of}
 
 -- ---- lists of bytes
 

@@ -1,15 +1,7 @@
 -- Verifying answers Ok exactly if the value accepts.
-use Rattle.std.proofs.Common.{◌≡◌, ℕ, true, List, length, Result, Ok, Err, inl, inr, ◌⊎◌, refl, arith}
-use Rattle.std.proofs.lemmas.Bool.Decides.{nat_tests}
-use Rattle.std.proofs.lemmas.Bool.{le-leb}
-use Rattle.std.proofs.lemmas.Slice.Eq.{bytes_eq-Decides}
-use Rattle.std.specs.Prelude.{MatchResult}
+use Rattle.argon2.proofs.Imports.{◌≡◌, ℕ, true, List, length, Result, Ok, Err, inl, inr, ◌⊎◌, refl, arith, nat_tests, le-leb, bytes_eq-Decides, MatchResult, OutOfMemory, Phc, AcceptsBy}
+use Rattle.argon2.proofs.Imports.{IsVerifyAnswer, is_tag, verify_outcome, stored_of, tag_of, context_with}
 use Rattle.argon2_base.specs.declared.error.password_hash.Error.{Error}
-use Rattle.argon2_base.specs.declared.error.password_hash.Error.TheVariants.{OutOfMemory}
-use Rattle.argon2_base.specs.PhcText.{Phc}
-use Rattle.argon2.specs.StoredTexts.{AcceptsBy, IsVerifyAnswer, is_tag, verify_outcome, stored_of}
-use Rattle.argon2.specs.Rfc9106.{tag_of}
-use Rattle.argon2.specs.Argon2.{context_with}
 use Rattle.argon2.proofs.password_hash_lemmas.Answered.{read_ok}
 
 module _ (secret password : List ℕ) (v : Phc) where

@@ -1,9 +1,5 @@
 -- Which address block has the word of a block, and how many a segment has.
-use Rattle.std.proofs.Common.{◌≡◌, ℕ, ◌+◌, ◌*◌, ◌/◌, ◌≤◌, Some, None, refl, ap, arith}
-use Rattle.std.specs.Prelude.{if◌then◌else◌}
-use Rattle.argon2.specs.Rfc9106.{Context, address_block, is_independent}
-use Rattle.argon2.specs.Layout.{addresses_at}
-use Rattle.argon2.specs.WatchedFilling.{address_mixings}
+use Rattle.argon2.proofs.Imports.{◌≡◌, ℕ, ◌+◌, ◌*◌, ◌/◌, ◌≤◌, Some, None, refl, ap, arith, if◌then◌else◌, Context, address_block, is_independent, addresses_at, address_mixings}
 
 -- one address block serves 128 indexes
 pub same_addresses : (ctx : Context) (pass lane slice i j : ℕ) → i / 128 ≡ j / 128

@@ -1,16 +1,7 @@
 -- The blocks satisfy the recurrence, and they alone do.
-use Rattle.std.proofs.Common.{◌≡◌, ℕ, zero, suc, ◌+◌, ◌*◌, ◌/◌, ◌%◌, ◌<◌, inl, inr, ◌&&◌, List, [], map, length, refl, sym, ap, ◌∙◌, arith}
-use Rattle.std.specs.Prelude.{slice_index_or, nat_lt, ◌==◌}
-use Rattle.std.specs.List.{range_with_len}
-use Rattle.std.proofs.lemmas.List.{get_or_append_left, length_push, get_or_push}
-use Rattle.std.proofs.lemmas.List.FromFn.{get_or-map-range_with_len}
-use Rattle.std.proofs.lemmas.Nat.{div-mul-add, mod-mul-add}
-use Rattle.std.proofs.lemmas.Bool.{cases_Bool, cases_lt}
-use Rattle.std.proofs.lemmas.Bool.Decides.{nat_tests}
-use Rattle.argon2.specs.Rfc9106.{Blocks, Context, FirstColumns, block_of, history, in_history, lane_length, made_block, rule}
-use Rattle.argon2.specs.Layout.{Sizes}
-use Rattle.argon2.specs.Steps.{IsStep}
-use Rattle.argon2.specs.Laws.{IsRecurrence}
+use Rattle.argon2.proofs.Imports.{◌≡◌, ℕ, zero, suc, ◌+◌, ◌*◌, ◌/◌, ◌%◌, ◌<◌, inl, inr, ◌&&◌, List, [], map, length, refl, sym, ap, ◌∙◌, arith, slice_index_or, nat_lt, ◌==◌, range_with_len}
+use Rattle.argon2.proofs.Imports.{get_or_append_left, length_push, get_or_push, get_or-map-range_with_len, div-mul-add, mod-mul-add, cases_Bool, cases_lt, nat_tests, Blocks, Context}
+use Rattle.argon2.proofs.Imports.{FirstColumns, block_of, history, in_history, lane_length, made_block, rule, Sizes, IsStep, IsRecurrence}
 use Rattle.argon2.proofs.recurrence.Sources.{Reads, made_cong}
 
 -- the moment of a pass's column: how many columns are made before it

@@ -1,11 +1,8 @@
 -- If addressing is independent, the place of a reference is a function of the algorithm, the three
 -- costs and the block's place.
-use Rattle.std.proofs.Common.{◌≡◌, ℕ, zero, suc, ◌+◌, ◌*◌, ◌/◌, ◌%◌, ◌<◌, true, refl, sym, ◌∙◌, arith}
-use Rattle.std.proofs.lemmas.Bool.Decides.{nat_tests}
-use Rattle.std.proofs.lemmas.Nat.{div_below}
-use Rattle.argon2.specs.Rfc9106.{Context, FirstColumns, address_block, address_word, finished_segments, is_independent, lane_length, permitted, reference, reference_lane, reference_of, reference_word, segment_length}
-use Rattle.argon2.specs.Layout.{Sizes, reference_places}
-use Rattle.argon2.specs.Laws.{AreAlike}
+use Rattle.argon2.proofs.Imports.{◌≡◌, ℕ, zero, suc, ◌+◌, ◌*◌, ◌/◌, ◌%◌, ◌<◌, true, refl, sym, ◌∙◌, arith, nat_tests, div_below, Context, FirstColumns, address_block, address_word}
+use Rattle.argon2.proofs.Imports.{finished_segments, is_independent, lane_length, permitted, reference, reference_lane, reference_of, reference_word, segment_length, Sizes, reference_places}
+use Rattle.argon2.proofs.Imports.{AreAlike}
 
 -- the place of the block that the address word takes
 addressed_place : Context → ℕ → ℕ → ℕ → ℕ

@@ -1,16 +1,8 @@
 -- Which blocks a block is made of. All else rests on two laws, `reference_reads` and `made_cong`.
-use Rattle.std.proofs.Common.{◌≡◌, ℕ, zero, suc, ◌+◌, ◌-◌, ◌*◌, ◌/◌, ◌%◌, ◌^◌, ◌<◌, ◌≤◌, ◌⊎◌, inl, inr, [], length, refl, sym, subst, arith}
-use Rattle.std.specs.Prelude.{◌==◌}
-use Rattle.std.proofs.Math.Nat.{mod-lt}
-use Rattle.std.specs.List.{range_with_len, All}
-use Rattle.std.proofs.lemmas.List.FromFn.{length-range_with_len, get_or-range_with_len}
+use Rattle.argon2.proofs.Imports.{◌≡◌, ℕ, zero, suc, ◌+◌, ◌-◌, ◌*◌, ◌/◌, ◌%◌, ◌^◌, ◌<◌, ◌≤◌, ◌⊎◌, inl, inr, [], length, refl, sym, subst, arith, ◌==◌, mod-lt, range_with_len, All}
+use Rattle.argon2.proofs.Imports.{length-range_with_len, get_or-range_with_len, cond_both, eqb-true, nat_tests, Blocks, Context, columns, finished_segments, lane_length, made_block}
+use Rattle.argon2.proofs.Imports.{permitted, previous, reference, reference_index, reference_lane, reference_of, reference_word, segment_length, Sizes, IsPlaceFor, IsStep}
 use Rattle.std.proofs.lemmas.List.Elements.{All-map, All-append, All-take, All-get_or, All-nil}
-use Rattle.std.proofs.lemmas.Bool.{cond_both, eqb-true}
-use Rattle.std.proofs.lemmas.Bool.Decides.{nat_tests}
-use Rattle.argon2.specs.Rfc9106.{Blocks, Context, columns, finished_segments, lane_length, made_block, permitted, previous, reference, reference_index, reference_lane, reference_of, reference_word, segment_length}
-use Rattle.argon2.specs.Layout.{Sizes}
-use Rattle.argon2.specs.Segments.{IsPlaceFor}
-use Rattle.argon2.specs.Steps.{IsStep}
 use Rattle.argon2.proofs.recurrence.PermittedPlaces.{InSlice, in_slice, some_permitted}
 
 -- The block of pass, lane and column may be made of that of r, l and c: the newest block of lane l and

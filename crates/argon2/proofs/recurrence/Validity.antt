@@ -1,12 +1,6 @@
 -- What the costs of a valid context amount to.
-use Rattle.std.proofs.Common.{◌≡◌, subst, ℕ, ◌*◌, ◌^◌, ◌<◌, ◌≤◌, None, arith}
-use Rattle.std.proofs.lemmas.Bool.Decides.{nat_tests}
-use Rattle.std.proofs.lemmas.Nat.{le-div}
-use Rattle.std.proofs.Math.Nat.{div-mul-le_self}
-use Rattle.std.specs.Prelude.{IsNone}
-use Rattle.argon2.specs.Settings.{first_fault}
-use Rattle.argon2.specs.Rfc9106.{Context, IsValid, segment_length_for}
-use Rattle.argon2.specs.Layout.{IsSize, Sizes}
+use Rattle.argon2.proofs.Imports.{◌≡◌, subst, ℕ, ◌*◌, ◌^◌, ◌<◌, ◌≤◌, None, arith, nat_tests, le-div, div-mul-le_self, IsNone, first_fault, Context, IsValid, segment_length_for, IsSize}
+use Rattle.argon2.proofs.Imports.{Sizes}
 
 -- the inequalities of RFC 9106, section 3.1, give sizes
 sizes_of_costs : (ctx : Context) → 1 ≤ ctx.p_cost → ctx.p_cost < 2 ^ 24 → 8 * ctx.p_cost ≤ ctx.m_cost

@@ -1,7 +1,6 @@
-use Rattle.std.proofs.Common.{◌≡◌, ℕ, List, [], ◌∷◌, ◌∙◌, length, refl, ap, ap₂}
-use Rattle.std.specs.Prelude.{replicate}
+use Rattle.argon2.proofs.Imports.{◌≡◌, ℕ, List, [], ◌∷◌, ◌∙◌, length, refl, ap, ap₂, replicate, add_mul, by_columns, by_rows, column, gb, mix_columns, mix_diagonals, mixed, perm, row}
+use Rattle.argon2.proofs.Imports.{xor_blocks, xor_rotate, zero_block}
 use Rattle.std.specs.Int.Bits.{xor_self}
-use Rattle.argon2_base.specs.Block.{add_mul, by_columns, by_rows, column, gb, mix_columns, mix_diagonals, mixed, perm, row, xor_blocks, xor_rotate, zero_block}
 use Rattle.argon2.proofs.laws.mixing_with_itself.Goals as goal
 
 -- the exclusive or of words with themselves is zeros

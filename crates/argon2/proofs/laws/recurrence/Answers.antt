@@ -1,5 +1,4 @@
-use Rattle.std.proofs.Common.{suc, arith}
-use Rattle.argon2.specs.Rfc9106.{block_of}
+use Rattle.argon2.proofs.Imports.{suc, arith, block_of}
 use Rattle.argon2.proofs.recurrence.Validity.{sizes-valid}
 use Rattle.argon2.proofs.recurrence.History as h
 use Rattle.argon2.proofs.laws.recurrence.Goals as goal

@@ -1,5 +1,4 @@
-use Rattle.argon2.specs.Rfc9106.{first_block}
-use Rattle.argon2.specs.Layout.{matrix_of}
+use Rattle.argon2.proofs.Imports.{first_block, matrix_of}
 use Rattle.argon2.proofs.recurrence.Validity.{sizes-valid}
 use Rattle.argon2.proofs.context_lemmas.Schedules.{schedules_agree}
 use Rattle.argon2.proofs.context_lemmas.Filling.{schedules_fill}

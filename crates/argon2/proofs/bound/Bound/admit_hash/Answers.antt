@@ -1,6 +1,4 @@
-use Rattle.std.proofs.Common.{ap, sym, ◌∙◌}
-use Rattle.argon2.specs.Rfc9106.{block_count_for}
-use Rattle.argon2.specs.Settings.{Parameters}
+use Rattle.argon2.proofs.Imports.{ap, sym, ◌∙◌, block_count_for, Parameters}
 use Rattle.argon2.proofs.bound.Bound.admit_hash.Goals as goal
 
 pub returns-clause-within : goal.returns-clause-within

@@ -1,8 +1,5 @@
-use Rattle.std.proofs.Common.{◌*◌, rules, arith, refl, sym}
-use Rattle.std.proofs.Math.Nat.{div-mul-le_self}
+use Rattle.argon2.proofs.Imports.{◌*◌, rules, arith, refl, sym, div-mul-le_self, parameters_of, segment_length_for}
 use Rattle.argon2.specs.Bound.{IsWithin}
-use Rattle.argon2.specs.Argon2.{parameters_of}
-use Rattle.argon2.specs.Rfc9106.{segment_length_for}
 use Rattle.argon2.proofs.bound.Bound.admitted_params.Goals as goal
 
 pub returns-clause-asked : goal.returns-clause-asked

@@ -1,6 +1,4 @@
-use Rattle.std.proofs.Common.{arith, ap, take, ◌∙◌}
-use Rattle.std.proofs.lemmas.List.{map-id}
-use Rattle.argon2.specs.Rfc9106.{block_count, lane_length}
+use Rattle.argon2.proofs.Imports.{arith, ap, take, ◌∙◌, map-id, block_count, lane_length}
 use Rattle.argon2.proofs.LentMemory.{is_begun}
 use Rattle.argon2.proofs.context.Argon2.begin_fill.Goals as goal
 

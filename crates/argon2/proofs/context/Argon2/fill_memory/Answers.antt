@@ -1,5 +1,4 @@
-use Rattle.std.proofs.Common.{arith}
-use Rattle.std.proofs.lemmas.Grind.{common_steps}
+use Rattle.argon2.proofs.Imports.{arith, common_steps}
 use Rattle.argon2.proofs.context.Argon2.fill_memory.Goals as goal
 
 pub returns-clause-filled : goal.returns-clause-filled

@@ -1,5 +1,4 @@
-use Rattle.std.proofs.lemmas.Grind.{common_steps}
-use Rattle.std.proofs.Common.{arith}
+use Rattle.argon2.proofs.Imports.{common_steps, arith}
 use Rattle.argon2.proofs.context.Argon2.fill_memory_with_words.Goals as goal
 
 pub returns-in_err-check_filling : goal.returns-in_err-check_filling

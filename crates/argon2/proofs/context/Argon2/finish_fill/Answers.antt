@@ -1,7 +1,4 @@
-use Rattle.std.proofs.Common.{ℕ, List, length, ap, ◌∙◌}
-use Rattle.std.proofs.lemmas.List.{map-id}
-use Rattle.argon2_base.specs.Block.{bytes_of}
-use Rattle.argon2_base.specs.LongHash.{long_hash}
+use Rattle.argon2.proofs.Imports.{ℕ, List, length, ap, ◌∙◌, map-id, bytes_of, long_hash}
 use Rattle.argon2.proofs.context_lemmas.LastColumn.{last_of_front}
 use Rattle.argon2.proofs.context.Argon2.finish_fill.Goals as goal
 

@@ -1,4 +1,4 @@
-use Rattle.std.proofs.lemmas.List.{map-id}
+use Rattle.argon2.proofs.Imports.{map-id}
 use Rattle.argon2.proofs.context.Argon2.finish_slices.Goals as goal
 
 pub returns : goal.returns

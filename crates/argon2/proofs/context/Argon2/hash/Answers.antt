@@ -1,6 +1,4 @@
-use Rattle.std.proofs.Common.{length, ap, ◌∙◌}
-use Rattle.argon2_base.specs.Block.{bytes_of}
-use Rattle.argon2_base.specs.LongHash.{long_hash}
+use Rattle.argon2.proofs.Imports.{length, ap, ◌∙◌, bytes_of, long_hash}
 use Rattle.argon2.proofs.context_lemmas.LastColumn.{last_of_front, tag_of_matrix}
 use Rattle.argon2.proofs.context.Argon2.hash.Goals as goal
 

@@ -1,5 +1,4 @@
-use Rattle.std.proofs.Common.{arith}
-use Rattle.std.proofs.lemmas.Grind.{common_steps}
+use Rattle.argon2.proofs.Imports.{arith, common_steps}
 use Rattle.argon2.proofs.context.Argon2.hash_password_into.Goals as goal
 
 pub returns-clause-answer : goal.returns-clause-answer

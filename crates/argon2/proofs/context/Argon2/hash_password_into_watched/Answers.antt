@@ -1,6 +1,4 @@
-use Rattle.std.proofs.Common.{Ok, ap, ◌∙◌, arith}
-use Rattle.argon2.specs.Argon2.{context_under}
-use Rattle.argon2.specs.WatchedFilling.{mixing_calls}
+use Rattle.argon2.proofs.Imports.{Ok, ap, ◌∙◌, arith, context_under, mixing_calls}
 use Rattle.argon2.proofs.context_lemmas.Refusing.{answered}
 use Rattle.argon2.proofs.context.Argon2.hash_password_into_watched.Goals as goal
 

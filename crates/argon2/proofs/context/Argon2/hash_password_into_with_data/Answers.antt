@@ -1,5 +1,4 @@
-use Rattle.std.proofs.Common.{length, ap, ◌≡◌, ◌∙◌, sym, arith}
-use Rattle.std.proofs.lemmas.List.{length-replicate}
+use Rattle.argon2.proofs.Imports.{length, ap, ◌≡◌, ◌∙◌, sym, arith, length-replicate}
 use Rattle.argon2.proofs.context_lemmas.Refusing.{checked_first}
 use Rattle.argon2.proofs.context.Argon2.hash_password_into_with_data.Goals as goal
 

@@ -1,5 +1,4 @@
-use Rattle.std.proofs.Common.{rules, sym, ◌∙◌}
-use Rattle.std.proofs.lemmas.Slice.Eq.{bytes_eq-Decides}
+use Rattle.argon2.proofs.Imports.{rules, sym, ◌∙◌, bytes_eq-Decides}
 use Rattle.argon2.proofs.context.Argon2.verify_stored.Goals as goal
 
 pub returns-then-eq : goal.returns-then-eq

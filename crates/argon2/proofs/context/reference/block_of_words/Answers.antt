@@ -1,5 +1,4 @@
-use Rattle.std.proofs.Common.{◌++◌, length, drop, replicate, ap, ◌∙◌}
-use Rattle.std.proofs.lemmas.List.{drop-replicate}
+use Rattle.argon2.proofs.Imports.{◌++◌, length, drop, replicate, ap, ◌∙◌, drop-replicate}
 use Rattle.argon2.proofs.context.reference.block_of_words.Goals as goal
 
 pub returns : goal.returns

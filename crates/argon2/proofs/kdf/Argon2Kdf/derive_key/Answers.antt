@@ -1,4 +1,4 @@
-use Rattle.std.proofs.Common.{arith}
+use Rattle.argon2.proofs.Imports.{arith}
 use Rattle.argon2.proofs.kdf.Argon2Kdf.derive_key.Goals as goal
 
 pub returns-clause-taken : goal.returns-clause-taken

@@ -1,9 +1,6 @@
-use Rattle.std.proofs.Common.{rules, ap, sym, ◌∙◌, Some, refl, string_bytes}
-use Rattle.std.proofs.lemmas.Map.Text.{btree_map_updates_text}
-use Rattle.std.specs.FinMap as finmap
-use Rattle.argon2_base.specs.PhcFields.{phc_of}
-use Rattle.argon2.specs.Login.{store_of}
+use Rattle.argon2.proofs.Imports.{rules, ap, sym, ◌∙◌, Some, refl, string_bytes, btree_map_updates_text, phc_of, store_of}
 use Rattle.argon2.proofs.login_lemmas.Stores.{values_of-set, get-other, get-same, present, absent}
+use Rattle.std.specs.FinMap as finmap
 use Rattle.argon2.proofs.login.Login.add.Goals as goal
 
 pub returns-then-contains_key-clause-step : goal.returns-then-contains_key-clause-step

@@ -1,11 +1,5 @@
-use Rattle.std.proofs.Common.{refl, subst, sym, ap, ◌∙◌, Some, None, Err, inr}
-use Rattle.std.proofs.lemmas.Map.Text.{btree_map_updates_text}
-use Rattle.std.specs.FinMap.{get}
-use Rattle.rand_core.specs.Stream.{fill_bytes}
-use Rattle.argon2_base.specs.PhcFields.{phc_of}
-use Rattle.argon2.specs.declared.login.answers.LoginError.TheVariants.{NameUnknown}
-use Rattle.argon2.specs.Login.{LoginAnswer, store_of, login_target}
-use Rattle.argon2.specs.NamedTexts.{values_of}
+use Rattle.argon2.proofs.Imports.{refl, subst, sym, ap, ◌∙◌, Some, None, Err, inr, btree_map_updates_text, get, fill_bytes, phc_of, NameUnknown, LoginAnswer, store_of, login_target}
+use Rattle.argon2.proofs.Imports.{values_of}
 use Rattle.argon2.proofs.login_lemmas.LoginLemmas.{has_accepted, has_current, no_text, login_step}
 use Rattle.argon2.proofs.login_lemmas.Stores.{get-found, get-other, get-same, values_of-set}
 use Rattle.argon2.proofs.login.Login.login.Goals as goal

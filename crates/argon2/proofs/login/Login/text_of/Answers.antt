@@ -1,6 +1,4 @@
-use Rattle.std.proofs.Common.{ap, sym, ◌∙◌}
-use Rattle.std.specs.Option.{option_map}
-use Rattle.argon2_base.specs.PhcFields.{phc_of}
+use Rattle.argon2.proofs.Imports.{ap, sym, ◌∙◌, option_map, phc_of}
 use Rattle.argon2.proofs.login_lemmas.Stores.{get-values_of}
 use Rattle.argon2.proofs.login.Login.text_of.Goals as goal
 

@@ -1,6 +1,4 @@
-use Rattle.std.proofs.Common.{ap, sym, ◌∙◌}
-use Rattle.std.specs.FinMap.{empty}
-use Rattle.argon2.specs.NamedTexts.{with_texts, named_values}
+use Rattle.argon2.proofs.Imports.{ap, sym, ◌∙◌, empty, with_texts, named_values}
 use Rattle.argon2.proofs.login_lemmas.Stores.{added-values_of, entries-values_of}
 use Rattle.argon2.proofs.login.Login.texts.Goals as goal
 

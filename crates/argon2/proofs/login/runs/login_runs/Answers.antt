@@ -1,4 +1,4 @@
-use Rattle.std.proofs.Common.{refl}
+use Rattle.argon2.proofs.Imports.{refl}
 use Rattle.argon2.proofs.password_hash_lemmas.MadeValues.{made_is_phc, made_accepts, made_shows}
 use Rattle.argon2.proofs.login_lemmas.RunLemmas.{texts_from, last_holds}
 use Rattle.argon2.proofs.login.runs.login_runs.Goals as goal

@@ -1,4 +1,4 @@
-use Rattle.std.proofs.Common.{arith}
+use Rattle.argon2.proofs.Imports.{arith}
 use Rattle.argon2.proofs.params.Params.block_count.Goals as goal
 
 pub returns-clause-value : goal.returns-clause-value

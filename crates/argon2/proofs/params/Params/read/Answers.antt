@@ -1,4 +1,4 @@
-use Rattle.std.proofs.Common.{arith}
+use Rattle.argon2.proofs.Imports.{arith}
 use Rattle.argon2.proofs.params.Params.read.Goals as goal
 
 pub returns-in_err-build : goal.returns-in_err-build

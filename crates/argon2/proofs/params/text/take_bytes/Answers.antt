@@ -1,4 +1,4 @@
-use Rattle.std.proofs.Common.{arith, refl}
+use Rattle.argon2.proofs.Imports.{arith, refl}
 use Rattle.argon2.proofs.params_lemmas.ValuesRead.{text_read, text_refused}
 use Rattle.argon2.proofs.params.text.take_bytes.Goals as goal
 

@@ -1,5 +1,4 @@
-use Rattle.std.proofs.Common.{arith, refl}
-use Rattle.argon2_base.proofs.phc_lemmas.DecimalLemmas.{number_again, number_none}
+use Rattle.argon2.proofs.Imports.{arith, refl, number_again, number_none}
 use Rattle.argon2.proofs.params.text.take_number.Goals as goal
 
 pub returns : goal.returns

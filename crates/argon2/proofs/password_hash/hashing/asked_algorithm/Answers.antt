@@ -1,4 +1,4 @@
-use Rattle.std.proofs.Common.{ap, option_copied}
+use Rattle.argon2.proofs.Imports.{ap, option_copied}
 use Rattle.argon2.proofs.password_hash_lemmas.Asked.{named_asked}
 use Rattle.argon2.proofs.password_hash.hashing.asked_algorithm.Goals as goal
 

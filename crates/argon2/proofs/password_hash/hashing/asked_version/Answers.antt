@@ -1,4 +1,4 @@
-use Rattle.std.proofs.Common.{rules}
+use Rattle.argon2.proofs.Imports.{rules}
 use Rattle.argon2.proofs.params_lemmas.Named.{version_numbered-no}
 use Rattle.argon2.proofs.password_hash.hashing.asked_version.Goals as goal
 

@@ -1,4 +1,4 @@
-use Rattle.argon2.specs.Rfc9106.{address_block}
+use Rattle.argon2.proofs.Imports.{address_block}
 use Rattle.argon2.proofs.context.instance.Instance.address_block.Goals as goal
 
 pub returns-clause-block : goal.returns-clause-block

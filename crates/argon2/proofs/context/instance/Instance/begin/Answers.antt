@@ -1,7 +1,4 @@
-use Rattle.std.proofs.Common.{◌≡◌, ◌+◌, ◌*◌, ◌<◌, length, map, ap, refl, sym, ◌∙◌, arith, rules}
-use Rattle.std.specs.Prelude.{slice_set}
-use Rattle.std.proofs.lemmas.List.{length-map, map-set}
-use Rattle.argon2.specs.Rfc9106.{block_after, first_block}
+use Rattle.argon2.proofs.Imports.{◌≡◌, ◌+◌, ◌*◌, ◌<◌, length, map, ap, refl, sym, ◌∙◌, arith, rules, slice_set, length-map, map-set, block_after, first_block}
 use Rattle.argon2.proofs.context_lemmas.FirstColumns.{lane_fits, with_pair, with_pair-lanes, with_pair-other}
 use Rattle.argon2.proofs.context.instance.Instance.begin.Goals as goal
 

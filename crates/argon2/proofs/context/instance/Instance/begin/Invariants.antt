@@ -1,6 +1,4 @@
-use Rattle.std.proofs.Common.{◌≡◌, ℕ, ◌+◌, ◌*◌, ◌<◌, ◌≤◌, [], map}
-use Rattle.std.specs.Prelude.{slice_index_or}
-use Rattle.argon2.specs.Rfc9106.{block_after}
+use Rattle.argon2.proofs.Imports.{◌≡◌, ℕ, ◌+◌, ◌*◌, ◌<◌, ◌≤◌, [], map, slice_index_or, block_after}
 use Rattle.argon2.proofs.context.instance.Instance.begin.Given as goal
 
 abbrev pub invariant-loop-lane : goal.invariant-loop-lane

@@ -1,6 +1,4 @@
-use Rattle.std.proofs.Common.{◌≡◌, ℕ, ◌+◌, ◌-◌, ◌*◌, ◌<◌, [], inl, inr, ap, sym, ◌∙◌, add-one, arith}
-use Rattle.std.specs.Prelude.{slice_index_or}
-use Rattle.argon2.specs.Rfc9106.{lane_length, segment_length}
+use Rattle.argon2.proofs.Imports.{◌≡◌, ℕ, ◌+◌, ◌-◌, ◌*◌, ◌<◌, [], inl, inr, ap, sym, ◌∙◌, add-one, arith, slice_index_or, lane_length, segment_length}
 use Rattle.argon2.proofs.context_lemmas.SegmentColumns.{slice_of_column}
 use Rattle.argon2.proofs.recurrence.PermittedPlaces.{InSlice, in_slice}
 use Rattle.argon2.proofs.context.instance.Instance.block.Goals as goal

@@ -1,9 +1,5 @@
-use Rattle.std.proofs.Common.{◌≡◌, ◌*◌, drop, map, take, refl, ap, ◌∙◌, add-one, arith, rules}
-use Rattle.std.proofs.lemmas.List.{length-map, length-take-le}
-use Rattle.argon2.specs.Rfc9106.{block_count, first_block}
-use Rattle.argon2.specs.Layout.{matrix_of}
-use Rattle.argon2.specs.Hashing.{blocks_of}
-use Rattle.argon2.specs.WatchedFilling.{segment_calls, slices_calls}
+use Rattle.argon2.proofs.Imports.{◌≡◌, ◌*◌, drop, map, take, refl, ap, ◌∙◌, add-one, arith, rules, length-map, length-take-le, block_count, first_block, matrix_of, blocks_of, segment_calls}
+use Rattle.argon2.proofs.Imports.{slices_calls}
 use Rattle.argon2.proofs.LentMemory.{has_matrix, lanes_begin, words_behind}
 use Rattle.argon2.proofs.context_lemmas.Counts.{calls_before-few, passes_calls, passes_calls-all}
 use Rattle.argon2.proofs.context_lemmas.InOrder.{filled_first, filled_last, filled_next, in_order-first, in_order-last, in_order-next, IsFilledUpTo-like}

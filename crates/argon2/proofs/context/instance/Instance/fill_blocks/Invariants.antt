@@ -1,6 +1,4 @@
-use Rattle.std.proofs.Common.{◌+◌, ◌*◌, map}
-use Rattle.argon2.specs.Rfc9106.{first_block}
-use Rattle.argon2.specs.WatchedFilling.{IsFilledUpTo, Watches, columns_before, in_order, segment_calls, slices_calls}
+use Rattle.argon2.proofs.Imports.{◌+◌, ◌*◌, map, first_block, IsFilledUpTo, Watches, columns_before, in_order, segment_calls, slices_calls}
 use Rattle.argon2.proofs.context_lemmas.Counts.{passes_calls}
 use Rattle.argon2.proofs.context.instance.Instance.fill_blocks.Given as goal
 

@@ -1,7 +1,4 @@
-use Rattle.std.proofs.Common.{◌≡◌, ◌+◌, ◌-◌, ◌*◌, ◌/◌, refl, ap, ◌∙◌, arith}
-use Rattle.argon2.specs.Rfc9106.{segment_length}
-use Rattle.argon2.specs.Layout.{addresses_at}
-use Rattle.argon2.specs.WatchedFilling.{address_mixings, columns_before, segment_calls}
+use Rattle.argon2.proofs.Imports.{◌≡◌, ◌+◌, ◌-◌, ◌*◌, ◌/◌, refl, ap, ◌∙◌, arith, segment_length, addresses_at, address_mixings, columns_before, segment_calls}
 use Rattle.argon2.proofs.recurrence.Addresses.{first_mixings, same_addresses, same_mixings}
 use Rattle.argon2.proofs.context_lemmas.InOrder.{filled_step}
 use Rattle.argon2.proofs.context_lemmas.SegmentColumns.{a_column, a_step}

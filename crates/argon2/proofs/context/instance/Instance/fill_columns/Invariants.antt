@@ -1,7 +1,4 @@
-use Rattle.std.proofs.Common.{◌≡◌, ◌+◌, ◌-◌, ◌*◌, map}
-use Rattle.argon2.specs.Rfc9106.{segment_length}
-use Rattle.argon2.specs.Layout.{addresses_at}
-use Rattle.argon2.specs.WatchedFilling.{address_mixings, columns_before, in_order, Fills, Watches}
+use Rattle.argon2.proofs.Imports.{◌≡◌, ◌+◌, ◌-◌, ◌*◌, map, segment_length, addresses_at, address_mixings, columns_before, in_order, Fills, Watches}
 use Rattle.argon2.proofs.context.instance.Instance.fill_columns.Given as goal
 
 -- the address block at hand serves the index before

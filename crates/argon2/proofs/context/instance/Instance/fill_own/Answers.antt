@@ -1,9 +1,4 @@
-use Rattle.std.proofs.Common.{◌≡◌, ◌+◌, ◌-◌, ◌*◌, ◌/◌, ◌<◌, refl, ap, ◌∙◌, arith}
-use Rattle.std.proofs.lemmas.Bool.Decides.{nat_tests}
-use Rattle.argon2.specs.Rfc9106.{segment_length}
-use Rattle.argon2.specs.Layout.{addresses_at}
-use Rattle.argon2.specs.Steps.{step}
-use Rattle.argon2.specs.WatchedFilling.{columns_before}
+use Rattle.argon2.proofs.Imports.{◌≡◌, ◌+◌, ◌-◌, ◌*◌, ◌/◌, ◌<◌, refl, ap, ◌∙◌, arith, nat_tests, segment_length, addresses_at, step, columns_before}
 use Rattle.argon2.proofs.recurrence.Addresses.{same_addresses}
 use Rattle.argon2.proofs.context_lemmas.Filling.{HasBlocksUpTo-like}
 use Rattle.argon2.proofs.context_lemmas.SegmentColumns.{a_column, a_step, in_lane}

@@ -1,8 +1,4 @@
-use Rattle.std.proofs.Common.{◌≡◌, ◌+◌, ◌-◌, ◌*◌, length}
-use Rattle.argon2.specs.Rfc9106.{FirstColumns, segment_length}
-use Rattle.argon2.specs.Layout.{Memory, addresses_at}
-use Rattle.argon2.specs.Segments.{AreParts}
-use Rattle.argon2.specs.WatchedFilling.{HasBlocksUpTo, columns_before}
+use Rattle.argon2.proofs.Imports.{◌≡◌, ◌+◌, ◌-◌, ◌*◌, length, FirstColumns, segment_length, Memory, addresses_at, AreParts, HasBlocksUpTo, columns_before}
 use Rattle.argon2.proofs.context_lemmas.SegmentParts.{ahead}
 use Rattle.argon2.proofs.context.instance.Instance.fill_own.Given as goal
 

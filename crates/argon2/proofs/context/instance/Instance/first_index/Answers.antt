@@ -1,6 +1,6 @@
 use Rattle.argon2.proofs.context_lemmas.SegmentColumns.{later_slice}
-use Rattle.argon2.proofs.context.instance.Instance.first_index.Goals as goal
 use Rattle.argon2.proofs.context.instance.Instance.first_index.Goals.{else-pass-eq0-via-then-pass-eq0+else-slice-eq0, else-pass-eq0-via-else-pass-eq0}
+use Rattle.argon2.proofs.context.instance.Instance.first_index.Goals as goal
 
 pub returns-else-pass-eq0-clause-later : goal.returns-else-pass-eq0-clause-later
 returns-else-pass-eq0-clause-later c = λ first. elim c.else-pass-eq0.branch [

@@ -1,5 +1,4 @@
-use Rattle.std.proofs.Common.{ap, arith}
-use Rattle.argon2.specs.Rfc9106.{Context}
+use Rattle.argon2.proofs.Imports.{ap, arith, Context}
 use Rattle.argon2.proofs.InitialHashing.{initial_hash_of_pieces}
 use Rattle.argon2.proofs.context.instance.Instance.initial_hash.Goals as goal
 

@@ -1,4 +1,4 @@
-use Rattle.std.proofs.Common.{refl, rules}
+use Rattle.argon2.proofs.Imports.{refl, rules}
 use Rattle.argon2.proofs.recurrence.Validity.{is_size}
 use Rattle.argon2.proofs.context.instance.Instance.lanes.Goals as goal
 

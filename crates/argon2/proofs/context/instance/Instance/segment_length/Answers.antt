@@ -1,5 +1,4 @@
-use Rattle.std.proofs.Common.{rules}
-use Rattle.argon2.specs.Rfc9106.{segment_length}
+use Rattle.argon2.proofs.Imports.{rules, segment_length}
 use Rattle.argon2.proofs.recurrence.Validity.{is_size}
 use Rattle.argon2.proofs.context.instance.Instance.segment_length.Goals as goal
 

@@ -1,10 +1,4 @@
-use Rattle.std.proofs.Common.{◌≡◌, ◌+◌, ◌*◌, map, sym, ap, ◌∙◌, arith, rules}
-use Rattle.std.proofs.lemmas.List.{map-set}
-use Rattle.argon2_base.specs.Block.{xor_blocks}
-use Rattle.argon2.specs.Layout.{place_of}
-use Rattle.argon2.specs.Rfc9106.{lane_length, reference}
-use Rattle.argon2.specs.SegmentSteps.{column_of}
-use Rattle.argon2.specs.Steps.{step}
+use Rattle.argon2.proofs.Imports.{◌≡◌, ◌+◌, ◌*◌, map, sym, ap, ◌∙◌, arith, rules, map-set, xor_blocks, place_of, lane_length, reference, column_of, step}
 use Rattle.argon2.proofs.context_lemmas.InMemory.{first_word_read, made_by_places, place_by_word, words_read}
 use Rattle.argon2.proofs.context.instance.Instance.step.Goals as goal
 

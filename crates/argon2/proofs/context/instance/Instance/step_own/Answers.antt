@@ -1,8 +1,4 @@
-use Rattle.std.proofs.Common.{◌≡◌, ap}
-use Rattle.std.specs.Prelude.{slice_index}
-use Rattle.argon2.specs.Rfc9106.{made_block, previous}
-use Rattle.argon2.specs.SegmentSteps.{column_of}
-use Rattle.argon2.specs.Steps.{in_memory}
+use Rattle.argon2.proofs.Imports.{◌≡◌, ap, slice_index, made_block, previous, column_of, in_memory}
 use Rattle.argon2.proofs.context_lemmas.InMemory.{made_by_places, previous_in_memory}
 use Rattle.argon2.proofs.context_lemmas.SegmentParts.{step_parts}
 use Rattle.argon2.proofs.context.instance.Instance.step_own.Goals as goal

@@ -1,10 +1,4 @@
-use Rattle.std.proofs.Common.{◌≡◌, ℕ, ◌+◌, ◌-◌, ◌*◌, List, [], map, arith, rules}
-use Rattle.std.specs.Prelude.{slice_index_or}
-use Rattle.std.specs.List.{range_with_len}
-use Rattle.std.proofs.lemmas.List.FromFn.{map-range_with_len_more}
-use Rattle.std.proofs.lemmas.List.Sums.{fold_push}
-use Rattle.argon2_base.specs.Block.{xor_blocks, zero_block}
-use Rattle.argon2.specs.Rfc9106.{xor_lanes}
+use Rattle.argon2.proofs.Imports.{◌≡◌, ℕ, ◌+◌, ◌-◌, ◌*◌, List, [], map, arith, rules, slice_index_or, range_with_len, map-range_with_len_more, fold_push, xor_blocks, zero_block, xor_lanes}
 use Rattle.argon2.proofs.context_lemmas.FirstColumns.{lane_fits}
 use Rattle.argon2.proofs.context_lemmas.InMemory.{words_read}
 use Rattle.argon2.proofs.context.instance.Instance.write_tag.Goals as goal

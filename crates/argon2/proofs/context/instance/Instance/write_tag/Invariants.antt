@@ -1,7 +1,4 @@
-use Rattle.std.proofs.Common.{◌≡◌, ℕ, ◌+◌, ◌-◌, ◌*◌, [], map, fold}
-use Rattle.std.specs.Prelude.{slice_index_or}
-use Rattle.std.specs.List.{range_with_len}
-use Rattle.argon2_base.specs.Block.{xor_blocks, zero_block}
+use Rattle.argon2.proofs.Imports.{◌≡◌, ℕ, ◌+◌, ◌-◌, ◌*◌, [], map, fold, slice_index_or, range_with_len, xor_blocks, zero_block}
 use Rattle.argon2.proofs.context.instance.Instance.write_tag.Given as goal
 
 -- the lanes so far

@@ -1,4 +1,4 @@
-use Rattle.std.proofs.Common.{arith}
+use Rattle.argon2.proofs.Imports.{arith}
 use Rattle.argon2.proofs.login.target.Target.log_in.Goals as goal
 
 pub returns-then-is_shown_by-clause-step : goal.returns-then-is_shown_by-clause-step

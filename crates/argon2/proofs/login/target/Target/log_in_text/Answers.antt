@@ -1,8 +1,4 @@
-use Rattle.std.proofs.Common.{inl, refl, sym, Err}
-use Rattle.rand_core.specs.Stream.{fill_bytes}
-use Rattle.argon2_base.specs.PhcFields.{phc_of}
-use Rattle.argon2.specs.Argon2.{secret_of}
-use Rattle.argon2.specs.Login.{target_value}
+use Rattle.argon2.proofs.Imports.{inl, refl, sym, Err, fill_bytes, phc_of, secret_of, target_value}
 use Rattle.argon2.proofs.login_lemmas.LoginLemmas.{leaves_accepts, leaves_current, leaves_step, refused_text}
 use Rattle.argon2.proofs.login_lemmas.Stores.{insert-same}
 use Rattle.argon2.proofs.password_hash_lemmas.Verified.{exact}

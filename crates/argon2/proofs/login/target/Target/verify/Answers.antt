@@ -1,9 +1,5 @@
-use Rattle.std.proofs.Common.{ℕ, List, Result, Ok, Err}
-use Rattle.std.specs.Prelude.{MatchResult}
-use Rattle.argon2_base.specs.PhcText.{Phc}
+use Rattle.argon2.proofs.Imports.{ℕ, List, Result, Ok, Err, MatchResult, Phc, secret_of, AcceptsBy, IsVerifyAnswer}
 use Rattle.argon2_base.specs.declared.error.password_hash.Error.{Error}
-use Rattle.argon2.specs.Argon2.{secret_of}
-use Rattle.argon2.specs.StoredTexts.{AcceptsBy, IsVerifyAnswer}
 use Rattle.argon2.proofs.password_hash_lemmas.Verified.{exact}
 use Rattle.argon2.proofs.login.target.Target.verify.Goals as goal
 

@@ -1,4 +1,4 @@
-use Rattle.std.proofs.Common.{arith}
+use Rattle.argon2.proofs.Imports.{arith}
 use Rattle.argon2.proofs.params.builder.ParamsBuilder.build.Goals as goal
 
 pub returns : goal.returns

@@ -1,4 +1,4 @@
-use Rattle.std.proofs.Common.{◌∙◌}
+use Rattle.argon2.proofs.Imports.{◌∙◌}
 use Rattle.argon2.proofs.params_lemmas.ListReading.{nothing_read, one_more, item_refused, passed_on}
 use Rattle.argon2.proofs.params.text.Found.of.Goals as goal
 

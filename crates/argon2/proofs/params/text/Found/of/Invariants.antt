@@ -1,4 +1,4 @@
-use Rattle.argon2.specs.ListedParameters.{found_of}
+use Rattle.argon2.proofs.Imports.{found_of}
 use Rattle.argon2.proofs.params_lemmas.ListReading.{Reading}
 use Rattle.argon2.proofs.params.text.Found.of.Given as goal
 

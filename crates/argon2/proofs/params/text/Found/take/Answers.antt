@@ -1,4 +1,4 @@
-use Rattle.std.proofs.Common.{arith}
+use Rattle.argon2.proofs.Imports.{arith}
 use Rattle.argon2.proofs.params.text.Found.take.Goals as goal
 
 pub returns-in-t : goal.returns-in-t

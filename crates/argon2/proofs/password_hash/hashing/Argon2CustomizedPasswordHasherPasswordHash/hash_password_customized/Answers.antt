@@ -1,8 +1,4 @@
-use Rattle.std.proofs.Common.{subst}
-use Rattle.std.specs.Prelude.{IfOk}
-use Rattle.argon2_base.specs.PhcFields.{phc_of}
-use Rattle.argon2_base.specs.PhcText.{phc_text}
-use Rattle.argon2.specs.StoredTexts.{Accepts}
+use Rattle.argon2.proofs.Imports.{subst, IfOk, phc_of, phc_text, Accepts}
 use Rattle.argon2.proofs.password_hash.hashing.Argon2CustomizedPasswordHasherPasswordHash.hash_password_customized.Goals as goal
 
 pub returns-clause-accepted : goal.returns-clause-accepted

@@ -1,4 +1,4 @@
-use Rattle.std.proofs.Common.{arith}
+use Rattle.argon2.proofs.Imports.{arith}
 use Rattle.argon2.proofs.password_hash.hashing.Argon2PasswordHasherPasswordHash.hash_password.Goals as goal
 
 pub returns-clause-answer : goal.returns-clause-answer

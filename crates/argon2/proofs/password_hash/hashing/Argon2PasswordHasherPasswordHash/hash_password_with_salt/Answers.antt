@@ -1,8 +1,4 @@
-use Rattle.std.proofs.Common.{◌≤◌, ap, arith, ◌∙◌, inl}
-use Rattle.argon2_base.specs.PhcText.{ident_text}
-use Rattle.argon2.specs.Settings.{algorithm_name, version_number}
-use Rattle.argon2.specs.Argon2.{parameters_of, settings_of}
-use Rattle.argon2.specs.TextHashing.{tag_length, target_of}
+use Rattle.argon2.proofs.Imports.{◌≤◌, ap, arith, ◌∙◌, inl, ident_text, algorithm_name, version_number, parameters_of, settings_of, tag_length, target_of}
 use Rattle.argon2.proofs.password_hash_lemmas.Hashed.{answer_made}
 use Rattle.argon2.proofs.password_hash_lemmas.MadeValues.{is_made, is_target, made_accepted, made_shows}
 use Rattle.argon2.proofs.password_hash.hashing.Argon2PasswordHasherPasswordHash.hash_password_with_salt.Goals as goal

@@ -1,9 +1,4 @@
-use Rattle.std.proofs.Common.{◌≡◌, Ok, length, ap, rules, ◌∙◌}
-use Rattle.std.specs.Option.{option_map}
-use Rattle.std.specs.Prelude.{IfSome}
-use Rattle.argon2_base.specs.PhcFields.{phc_of}
-use Rattle.argon2_base.specs.PhcText.{HasBytes}
-use Rattle.argon2.specs.StoredTexts.{settings_value, shown_settings}
+use Rattle.argon2.proofs.Imports.{◌≡◌, Ok, length, ap, rules, ◌∙◌, option_map, IfSome, phc_of, HasBytes, settings_value, shown_settings}
 use Rattle.argon2.proofs.password_hash_lemmas.Answered.{shown_length}
 use Rattle.argon2.proofs.password_hash.stored.Stored.with_settings.Goals as goal
 

@@ -1,6 +1,4 @@
-use Rattle.std.proofs.Common.{sym}
-use Rattle.argon2_base.specs.PhcFields.{phc_of}
-use Rattle.argon2.specs.Argon2.{secret_of}
+use Rattle.argon2.proofs.Imports.{sym, phc_of, secret_of}
 use Rattle.argon2.proofs.password_hash_lemmas.Verified.{exact}
 use Rattle.argon2.proofs.password_hash.verifying.Argon2PasswordVerifierRefPasswordHash.verify_password.Goals as goal
 

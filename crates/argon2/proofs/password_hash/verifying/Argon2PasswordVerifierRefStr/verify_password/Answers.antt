@@ -1,5 +1,4 @@
-use Rattle.std.proofs.Common.{inl}
-use Rattle.argon2_base.specs.PhcFields.{phc_of}
+use Rattle.argon2.proofs.Imports.{inl, phc_of}
 use Rattle.argon2.proofs.password_hash.verifying.Argon2PasswordVerifierRefStr.verify_password.Goals as goal
 
 pub returns-clause-answer : goal.returns-clause-answer
