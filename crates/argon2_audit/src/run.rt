@@ -104,7 +104,7 @@ fn write_report<R: Read + Named, W: Write, E: Write>(
             let mut findings = Findings::new(alloc)?;
             let session = session_of(alloc, options, input, &mut findings, errors, shows_progress)?;
             let text = findings.object(&session)?;
-            write_line(output, text.as_slice())?;
+            write_line(output, &[text.as_slice()])?;
             Ok(session.tally)
         }
         Form::Quiet => {

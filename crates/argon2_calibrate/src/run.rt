@@ -78,7 +78,7 @@ fn write_json<W: Write>(alloc: Global, output: &mut W, found: Found, p: u32) -> 
     json.boolean(found.busy)?;
     json.end_object()?;
     let text = json.into_inner();
-    write_line(output, text.as_slice())?;
+    write_line(output, &[text.as_slice()])?;
     Ok(())
 }
 

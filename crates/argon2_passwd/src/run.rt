@@ -195,7 +195,7 @@ fn hash<P: Outside, R: BufRead, W: Write>(
         (R.remaining input.old) (W.contents output.old) (W.contents output.new) }
 {
     let hash = new_text(alloc, outside, policy, input)?;
-    write_line(output, hash.text().as_str().as_bytes())?;
+    write_line(output, &[hash.text().as_str().as_bytes()])?;
     Ok(())
 }
 
@@ -231,7 +231,7 @@ fn check<P: Outside, R: BufRead, W: Write>(
     let password = password(alloc, input)?;
     let (accepted, hash) = texts::login(policy, &mut rng, text, password.as_slice())?;
     let reply = texts::reply(alloc, accepted, &hash)?;
-    write_line(output, reply.as_str().as_bytes())?;
+    write_line(output, &[reply.as_str().as_bytes()])?;
     Ok(())
 }
 
@@ -293,7 +293,6 @@ fn generator<P: Outside>(outside: &P) -> Result<ChaCha20Rng, Failure>
 fn write_accepted<W: Write>(output: &mut W, accepted: Accepted) -> Result<(), Failure>
     ensures { SaysLogin (Ok accepted) result (W.contents output.old) (W.contents output.new) }
 {
-    writeln!(output, "{accepted}")?;
-    output.flush()?;
+    write_line(output, &[accepted.as_str().as_bytes()])?;
     Ok(())
 }

@@ -18,7 +18,8 @@ use Rattle.argon2.specs.Rfc9106.{tag_of}
 use Rattle.argon2.specs.TextHashing.{hash_outcome}
 use Rattle.argon2.specs.Refusals.{answer_unless, length_refusal}
 use Rattle.argon2.specs.Settings.{Settings, algorithm_named, first_fault, cost_parameters, version_numbered}
-use Rattle.argon2_tool.specs.Failures.{AppendsFront, IsOfInput, IsOfMemory}
+use Rattle.argon2_programs.specs.Lines.{AppendsFront}
+use Rattle.argon2_tool.specs.Failures.{IsOfInput, IsOfMemory}
 use Rattle.argon2_tool.specs.declared.arguments.Command.{Command}
 use Rattle.argon2_tool.specs.declared.arguments.Command.TheVariants.{Digest, Long, Tag, Phc as PhcCommand, Verify, Help, Version as VersionCommand}
 use Rattle.argon2_tool.specs.declared.arguments.Request.{Request}

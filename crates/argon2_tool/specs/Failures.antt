@@ -1,9 +1,9 @@
 -- Why a command fails, and what is printed then.
 use Rattle.std.specs.Prelude.{◌≡◌, ◌≢◌, ⊤, ℕ, List, [], ◌∷◌, ◌++◌, Option, codes}
-use Rattle.std.specs.Io.KnownBytes.{Appends}
 use Rattle.std.specs.IoError.{error_kind}
 use Rattle.std.specs.declared.io.Error.{Error as IoError}
 use Rattle.std.specs.declared.io.ErrorKind.TheVariants.{OutOfMemory as IoOutOfMemory}
+use Rattle.argon2_programs.specs.Lines.{AppendsFront}
 use Rattle.argon2_base.specs.Error.{error_text, hash_error_text}
 use Rattle.argon2_base.specs.declared.error.Error.{Error}
 use Rattle.argon2_base.specs.declared.error.Error.TheVariants.{OutOfMemory}
@@ -49,10 +49,6 @@ failure_text Output = codes "standard output can't be written"
 failure_text (Memory refused) = codes "out of memory"
 failure_text (Hashing refusal) = error_text refusal
 failure_text (Text refusal) = hash_error_text refusal
-
--- known bytes grow by a front of the text, which may be all of it
-abbrev pub AppendsFront : Option (List ℕ) → Option (List ℕ) → List ℕ → Type 0
-AppendsFront old new text = (front : List ℕ) × (rest : List ℕ) × (text ≡ front ++ rest) × Appends old new front
 
 -- known bytes grow by the failure's line, or by a front of it if a write fails
 abbrev pub IsReported : Failure → Option (List ℕ) → Option (List ℕ) → Type 0

@@ -9,7 +9,6 @@ use std::process::ExitCode;
 
 mod arguments;
 mod failure;
-mod line;
 mod run;
 #[cfg(test)]
 mod tests;

@@ -5,14 +5,15 @@ ghost use Rattle.std.specs.Io.KnownBytes.{Keeps};
 ghost use Rattle.hex.specs.Hex.{encode_lower};
 ghost use Rattle.argon2_base.specs.Blake2b.{blake2b};
 ghost use Rattle.argon2_tool.specs.Commands.{AnswersCommand, FailsBy, IsCommand, IsPage, IsReply, Spells};
-ghost use Rattle.argon2_tool.specs.Failures.{AppendsFront, IsOfInput, IsReported};
+ghost use Rattle.argon2_programs.specs.Lines.{AppendsFront};
+ghost use Rattle.argon2_tool.specs.Failures.{IsOfInput, IsReported};
 
 use crate::arguments::{Command, Request};
 use crate::failure::Failure;
-use crate::line::write_line;
 use argon2::blake2b::Blake2b;
 use argon2::blake2b_long::blake2b_long;
 use argon2::{Argon2, PasswordHasher, PasswordVerifier};
+use argon2_programs::write_line;
 use std::alloc::Global;
 use std::io::{ErrorKind, Read, Write};
 
@@ -82,7 +83,7 @@ pub fn run<R: Read, W: Write, E: Write>(
         (USAGE.now ++ 10 ∷ []) }
 {
     let Some(command) = Command::parsed(args) else {
-        let _ = write_line(errors, &[USAGE]);
+        let _ = write_line(errors, &[USAGE.as_bytes()]);
         return 2;
     };
     match answer(alloc, &command, input, output) {
@@ -97,7 +98,7 @@ pub fn fail<E: Write>(errors: &mut E, failure: Failure) -> u8
     ensures reported { IsReported failure (E.contents errors.old) (E.contents errors.new) }
 {
     let (start, name, end) = failure.text();
-    let _ = write_line(errors, &["argon2: ", start, name, end]);
+    let _ = write_line(errors, &[b"argon2: ", start.as_bytes(), name.as_bytes(), end.as_bytes()]);
     1
 }
 
@@ -116,7 +117,7 @@ fn answer<R: Read, W: Write>(
     ensures page { IsPage command.now → input.new ≡ input.old }
 {
     let text = reply(alloc, command, input)?;
-    match write_line(output, &[text.as_str()]) {
+    match write_line(output, &[text.as_str().as_bytes()]) {
         Ok(()) => Ok(()),
         Err(_) => Err(Failure::Output),
     }

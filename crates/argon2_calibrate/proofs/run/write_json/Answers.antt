@@ -1,4 +1,4 @@
-use Rattle.std.proofs.Common.{◌≡◌, [], ◌++◌, Some, arith, refl}
+use Rattle.std.proofs.Common.{◌≡◌, [], ◌++◌, Some, append-nil, arith, refl}
 use Rattle.std.proofs.lemmas.Grind.{common_steps}
 use Rattle.json.specs.Json.{document}
 use Rattle.json.specs.Lex.{tokens}
@@ -13,4 +13,4 @@ returns g c =
     let items = c.into_inner-text.result.items in
     let read : tokens items ≡ json_tokens json ++ [] = grind (arith, common_steps) in
     let text : document items ≡ Some json = rw (read, value-json_tokens json 128 [] (omega arith)) refl in
-    (items, text, rw c.as_slice.ensures.value at c.in_ok-write_line.ensures)
+    (items, text, rw (c.as_slice.ensures.value, append-nil items) at c.in_ok-write_line.ensures.written)

@@ -8,7 +8,7 @@ pub returns-in_default-clause-unwritten : goal.returns-in_default-clause-unwritt
 returns-in_default-clause-unwritten g c = λ two. refl
 
 pub returns-in_default-clause-usage_line : goal.returns-in_default-clause-usage_line
-returns-in_default-clause-usage_line g c = λ two. c.write_line.ensures.cut
+returns-in_default-clause-usage_line g c = λ two. rw c.as_bytes.ensures.value at c.write_line.ensures.cut
 
 pub returns-in-Err-clause-usage : goal.returns-in-Err-clause-usage
 returns-in-Err-clause-usage g c =

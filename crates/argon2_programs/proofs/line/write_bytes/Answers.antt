@@ -1,9 +1,9 @@
 use Rattle.std.proofs.Common.{rules}
 use Rattle.std.proofs.lemmas.List.{take_rest}
 use Rattle.std.proofs.KnownBytes.{Appends-kept}
-use Rattle.argon2_tool.proofs.Fronts.{first_are_front, first_and_next}
-use Rattle.argon2_tool.proofs.line.write_bytes.Goals.{in-Ok, in-Err, else-pieces-test, then-pieces-test+else-written-bytes+in-Ok-eq0}
-use Rattle.argon2_tool.proofs.line.write_bytes.Goals as goal
+use Rattle.argon2_programs.proofs.Fronts.{first_are_front, first_and_next}
+use Rattle.argon2_programs.proofs.line.write_bytes.Goals.{in-Ok, in-Err, else-pieces-test, then-pieces-test+else-written-bytes+in-Ok-eq0}
+use Rattle.argon2_programs.proofs.line.write_bytes.Goals as goal
 
 -- src/line.rt:39:23
 pub returns-in-Err-2-clause-cut : goal.returns-in-Err-2-clause-cut

@@ -1,12 +1,12 @@
 use Rattle.std.proofs.Common.{◌≡◌, take, arith}
 use Rattle.std.proofs.lemmas.List.{take_all}
-use Rattle.argon2_tool.proofs.Fronts.{front_of_parts, front_that_stays, text_and_front}
-use Rattle.argon2_tool.proofs.line.write_line.Goals as goal
+use Rattle.argon2_programs.proofs.Fronts.{front_of_parts, front_that_stays, text_and_front}
+use Rattle.argon2_programs.proofs.line.write_line.Goals as goal
 
 pub returns-in_err-write_bytes-clause-cut : goal.returns-in_err-write_bytes-clause-cut
 returns-in_err-write_bytes-clause-cut g c =
     front_of_parts _ c.parts.part-index _ _ _ _ _ c.parts-test.true c.parts.invariant
-    (rw c.as_bytes.ensures.value at c.write_bytes.ensures.cut)
+    c.write_bytes.ensures.cut
 
 pub returns-in_err-write_bytes-2-clause-cut : goal.returns-in_err-write_bytes-2-clause-cut
 returns-in_err-write_bytes-2-clause-cut g c =

@@ -7,8 +7,7 @@ use Rattle.std.proofs.lemmas.List.{drop_more}
 use Rattle.std.proofs.lemmas.List.Concat.{flat_map-cons}
 use Rattle.std.specs.Borrow.{Bor}
 use Rattle.std.specs.Io.KnownBytes.{Appends, Keeps}
-use Rattle.argon2_base.specs.LongHash.{joined}
-use Rattle.argon2_tool.specs.Failures.{AppendsFront}
+use Rattle.argon2_programs.specs.Lines.{AppendsFront, joined}
 
 -- the first bytes of a text are a front of it
 pub first_are_front : (i : ℕ) (text : List ℕ) (a b : Option (List ℕ)) → Appends a b (take i text) → AppendsFront a b text

@@ -1,6 +1,6 @@
 use Rattle.std.proofs.Common.{◌≤◌, length, take}
 use Rattle.std.specs.Io.KnownBytes.{Appends}
-use Rattle.argon2_tool.proofs.line.write_bytes.Given as goal
+use Rattle.argon2_programs.proofs.line.write_bytes.Given as goal
 
 abbrev pub invariant-pieces : goal.invariant-pieces
 invariant-pieces g l = (l.written ≤ length l.fn.bytes)
