@@ -1,6 +1,6 @@
 -- What the proofs of this crate share: words, and how what is asked for ended, by how a call for it ended.
 pub use Rattle.std.proofs.Common.{[], add-one, ap, append-nil, append_assoc, arith, Bool, Bor, drop, drop-cons, Err, false, get_or, inl, inr, length, List, lit<, map, min, None, Ok, Option, refl}
-pub use Rattle.std.proofs.Common.{Result, rules, Some, subst, suc, sym, take, true, ℕ, ⊎_elim, ◌++◌, ◌+◌, ◌<◌, ◌==◌, ◌||◌, ◌∙◌, ◌∷◌, ◌≡◌, ◌⊎◌}
+pub use Rattle.std.proofs.Common.{Result, rules, Some, subst, suc, sym, take, true, ℕ, ⊎_elim, ◌++◌, ◌+◌, ◌<◌, ◌==◌, ◌||◌, ◌∙◌, ◌∷◌, ◌≡◌, ◌≢◌, ◌⊎◌}
 pub use Rattle.std.proofs.lemmas.Option.{IfSome_then}
 pub use Rattle.std.specs.Io.BufRead.{drop_through, DropsThrough, strip_last}
 pub use Rattle.std.specs.Io.KnownBytes.{Appends, Keeps, WriteAppends}
@@ -19,7 +19,7 @@ pub use Rattle.argon2_passwd.specs.Answers.{AddsEntries, answer_without_text, be
 pub use Rattle.argon2_passwd.specs.Lines.{AreSaid, entries_in, entry_or_flaw, first_of_each, flaws_from, has_name, has_scheme, IsEntryOrFlaw, IsForeign, IsOfFirst, IsTaken, Line, line_has_name}
 pub use Rattle.argon2_passwd.specs.Lines.{new_line, parts_now, unless_known, unmarked, with_name}
 pub use Rattle.argon2_passwd.specs.Passwords.{line_of, password_of}
-use Rattle.argon2_passwd.specs.Failures.{IsMemory, IsOfFile, status_of}
+use Rattle.argon2_passwd.specs.Failures.{IsMemory, IsOfFile, IsOfWrite, status_of}
 use Rattle.argon2_passwd.specs.declared.failure.Failure.{Failure}
 pub use Rattle.argon2_base.specs.PhcFields.{phc_of}
 pub use Rattle.argon2_passwd.specs.declared.failure.Flaw.{Flaw}
@@ -64,6 +64,10 @@ said_of input any_text read said same are =
 -- out of memory is no refusal
 pub memory_is : (f : Failure) → IsMemory f → status_of f ≡ 3
 memory_is f memory = grind arith
+
+-- nor is a failed write
+pub refusal_of_write : {A : Type 0} (f : Failure) → IsOfWrite f → status_of f ≢ 3 → A
+refusal_of_write f of isnt = absurd (grind arith)
 
 -- nor is an error of the file
 pub no_refusal : (e : FileError) (f : Failure) → IsOfFile e f → is_refusal e ≡ false → status_of f ≡ 3

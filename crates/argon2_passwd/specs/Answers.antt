@@ -15,6 +15,7 @@ use Rattle.argon2.specs.declared.bound.BoundError.TheVariants as bound
 use Rattle.argon2.specs.declared.login.answers.Accepted.{Accepted}
 use Rattle.argon2.specs.declared.login.answers.Accepted.TheVariants.{Kept, Rehashed}
 use Rattle.argon2_policy.specs.Policy.{Admits, ChangeRefusal, Denial, IsPolicy, LogsIn, Policy}
+use Rattle.argon2_programs.specs.Lines.{AppendsFront}
 use Rattle.argon2_programs.specs.Schemes.{scheme_of}
 use Rattle.argon2_rows.specs.Locks.{is_locked}
 use Rattle.argon2_rows.specs.Names.{IsFirstTaken, Texts}
@@ -181,10 +182,10 @@ TellsOf IsOf (Ok x) (Ok y) = y ≡ x
 TellsOf IsOf (Err e) (Err failure) = IsOf e failure
 TellsOf IsOf _ _ = ⊥
 
--- what is written of a login, and the result: what it did, or nothing if it is refused
+-- what is written of a login, and the result: what it did, or a front of that if a write fails; or nothing if it is refused
 abbrev pub SaysLogin : Result Accepted Failure → Outcome → Known → Known → Type 0
 SaysLogin (Ok did) (Ok _) old new = Appends old new (accepted_text did ++ 10 ∷ [])
-SaysLogin (Ok did) (Err failure) old new = IsOfWrite failure
+SaysLogin (Ok did) (Err failure) old new = IsOfWrite failure × AppendsFront old new (accepted_text did ++ 10 ∷ [])
 SaysLogin (Err why) result old new = (result ≡ Err why) × Keeps old new
 
 -- a call of which its result tells, or a file that was not opened, which is no refusal
@@ -205,21 +206,21 @@ IsUnfit policy (OnFile path (Import any_text)) input failure =
     OfLines any_text input (λ said. IsOfFirst (flaws_from 1 said) failure)
 IsUnfit policy _ input failure = ⊥
 
--- what is written without a file
-abbrev pub IsWritten : (List ℕ → Type 0) → Policy → Action → Known → Known → Known → Type 0
-IsWritten Gives policy Hash input old new =
-    (v : Phc) × IsNewText Gives policy input v × Appends old new (phc_text v ++ 10 ∷ [])
-IsWritten Gives policy (Check text) input old new = OfPassword (λ password.
+-- a fact of the line that a command writes which opens no file
+abbrev pub OfLine : (List ℕ → Type 0) → Policy → Action → Known → (List ℕ → Type 0) → Type 0
+OfLine Gives policy Hash input P = (v : Phc) × IsNewText Gives policy input v × P (phc_text v ++ 10 ∷ [])
+OfLine Gives policy (Check text) input P = OfPassword (λ password.
     (drawn : List ℕ) × (v : Phc) × (did : Accepted) × (w : Phc) × IsSalt Gives drawn × SaysHash text.now v
-    × LogsIn policy password drawn v (Ok did) w × Appends old new (login_text did w ++ 10 ∷ [])) input
-IsWritten Gives policy _ input old new = ⊥
+    × LogsIn policy password drawn v (Ok did) w × P (login_text did w ++ 10 ∷ [])) input
+OfLine Gives policy _ input P = ⊥
 
--- How a command ended that opened no file: it is answered, or refused before. Nothing but a failed write leaves a part of an
--- answer.
+-- How a command ended that opened no file: it is answered, or refused before. Nothing but a failed write leaves a front of
+-- the answer.
 abbrev pub IsAnswered : (List ℕ → Type 0) → Policy → Action → Outcome → Known → Known → Known → Type 0
-IsAnswered Gives policy what (Ok _) input old new = IsWritten Gives policy what input old new
+IsAnswered Gives policy what (Ok _) input old new = OfLine Gives policy what input (Appends old new)
 IsAnswered Gives policy what (Err failure) input old new =
-    (status_of failure ≢ 3 → IsUnfit policy what input failure) × (IsOfWrite failure ⊎ Keeps old new)
+    (status_of failure ≢ 3 → IsUnfit policy what input failure)
+    × ((IsOfWrite failure × OfLine Gives policy what input (AppendsFront old new)) ⊎ Keeps old new)
 
 module _ {S : Type 0} (g : Ghosts S) (Has : List ℕ → Texts → Type 0) where
   -- the file at a path was opened, used so, and closed with this store
