@@ -26,9 +26,10 @@ mark at the start of a line and a carriage return at its end are skipped, and so
 LDAP servers put before a text: argon2 before a $, {argon2}, {ARGON2}, {ARGON2I}, {ARGON2ID}, {CRYPT} and
 {crypt}. Texts of other schemes are named by how they begin, with the separator behind the name: bcrypt,
 scrypt, PBKDF2, yescrypt, sha256crypt, sha512crypt, md5crypt, and digests of Django and LDAP; argon2-audit(1)
-has the list. A line `scrypt:N:R:P$..` or `pbkdf2:sha256:N$..` (also sha1, sha512) is a text of Werkzeug without a
-name. A field that begins with a double quote ends behind the next one, as in CSV: two of them stand for one. A text that begins with ! or * is locked. An empty text is never sound: some
-systems take any password for it. All salts are kept, to find equal ones.
+has the list. A line `scrypt:N:R:P$..` or `pbkdf2:sha256:N$..` (also sha1, sha512) is a text of Werkzeug
+without a name. A field that begins with a double quote ends behind the next one, as in CSV: two of them stand
+for one. A text that begins with ! or * is locked. An empty text is never sound: some systems take any password
+for it. All salts are kept, to find equal ones.
 
 The status is 0 if each line is sound and no two salts are equal, 1 if that is not so, 2 if the arguments are
 wrong, and 3 if a file, reading, writing or a request for memory fails, which standard error says.";
