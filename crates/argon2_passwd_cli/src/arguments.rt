@@ -275,7 +275,7 @@ fn with_words<'a>(
     command: clap::Command<'a>,
 ) -> Result<clap::Command<'a>, AllocError> {
     let command = command.arg(arg!(in alloc; --"any-text"
-        "`import` takes texts of bcrypt, scrypt, PBKDF2, yescrypt, SHA-crypt, LDAP and Django too"))?;
+        "`import` takes texts of bcrypt, scrypt, PBKDF2, yescrypt, SHA-crypt, MD5-crypt, LDAP and Django too"))?;
     let command = command.arg(arg!(in alloc; --skip
         "`import` passes over lines that may not be added, and says which and why"))?;
     let command = command.arg(arg!(in alloc; --explain
