@@ -1,4 +1,4 @@
--- What the proofs of this crate share: words, and how what is asked for ended, by how a call for it ended.
+-- What the proofs of this crate share: the words that they use, and lemmas on passwords, lines, failures and opened files.
 pub use Rattle.std.proofs.Common.{[], add-one, ap, append-nil, append_assoc, arith, Bool, Bor, drop, drop-cons, Err, false, get_or, inl, inr, length, List, lit<, map, min, None, Ok, Option, refl}
 pub use Rattle.std.proofs.Common.{Result, rules, Some, subst, suc, sym, take, true, ℕ, ⊎_elim, ◌++◌, ◌+◌, ◌<◌, ◌==◌, ◌||◌, ◌∙◌, ◌∷◌, ◌≡◌, ◌≢◌, ◌⊎◌}
 pub use Rattle.std.proofs.lemmas.Option.{IfSome_then}
@@ -84,7 +84,7 @@ module _ {S : Type 0} {g : Ghosts S} {Has : List ℕ → Texts → Type 0} where
   opened_for before after opened does next =
       record { before = before; after = after; opened = opened; does = does; next = next }
 
-  -- and what is so then
+  -- the same, with what follows of the store that it left
   pub looked_then : {path : List ℕ} {Does : AccountFile S g → AccountFile S g → Type 0} {Next After : S → Type 0}
       (looked : IsOpenFor g Has path Does Next) → After (database_of looked.after) → IsOpenFor g Has path Does After
   looked_then looked next = opened_for looked.before looked.after looked.opened looked.does next
