@@ -4,6 +4,11 @@ use Rattle.argon2_base.proofs.Imports.{replicate, arith, refl, ap, subst, ◌∙
 use Rattle.argon2_base.proofs.Imports.{length-zip2, get_or-map-range_with_len, length-map-range_with_len, zip2, pick_l, add_mul, gb, mix_columns, mix_diagonals, row, xor_rotate}
 use Rattle.argon2_base.proofs.Imports.{exchanged_left, exchanged_right, lane, lane_word, words_in_eights}
 use Rattle.std.proofs.Common.{bit_or, bit_xor}
+use Rattle.std.proofs.lemmas.List.{get_or_append_left, get_or-append_right, get_or-drop, get_or-take}
+use Rattle.std.proofs.lemmas.Simd.{pick_l_whole, get_or-put_chunk_above, get_or-put_chunk_at, get_or-put_chunk_below}
+
+-- a word of vectors that are cut out, written, put side by side or zipped
+pub ruleset lane_steps = (get_or-drop, get_or-take, get_or-put_chunk_above, get_or-put_chunk_at, get_or-put_chunk_below, get_or_append_left, get_or-append_right, pick_l_whole, get_or-zip2, length-zip2)
 
 -- what is true of 0 and 1 is true of each number below 2
 pub below_two : (P : ℕ → Type 0) → P 0 → P 1 → (e : ℕ) → e < 2 → P e

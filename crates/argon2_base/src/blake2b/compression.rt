@@ -62,6 +62,7 @@ fn working_vector(h: &[u64; 8], t: u128, last: bool) -> [u64; 16]
 // Rounds 0 to 3.
 #[rattlefmt::skip]
 #[inline(always)]
+#[tactic(auto, unfolding(crate::specs::Blake2b::rounds))]
 fn rounds_0_to_3(v: [u64; 16], m: &[u64; 16]) -> [u64; 16]
     ensures { (start : List ℕ) → v ≡ rounds start m.now 0 → result ≡ rounds start m.now 4 }
 {
@@ -100,6 +101,7 @@ fn rounds_8_to_11(v: [u64; 16], m: &[u64; 16]) -> [u64; 16]
 
 // One round on v, with the message words x in their order: the columns, and then the diagonals.
 #[inline(always)]
+#[tactic(auto, unfolding(crate::specs::Blake2b::round))]
 fn round(mut v: [u64; 16], x: [u64; 16]) -> [u64; 16]
     ensures { result ≡ round v x }
 {
@@ -125,6 +127,7 @@ fn mix_at(v: &mut [u64; 16], i: usize, j: usize, k: usize, l: usize, x: u64, y: 
 
 // The function G on four words, with the message words x and y.
 #[inline(always)]
+#[tactic(auto, unfolding(crate::specs::Blake2b::mix))]
 fn mix(a: u64, b: u64, c: u64, d: u64, x: u64, y: u64) -> [u64; 4]
     ensures { result ≡ mix a b c d x y }
 {

@@ -32,6 +32,7 @@ fn xor_rotate(a: u64x16, b: u64x16, k: u64) -> u64x16
 
 // GB in each lane of four vectors.
 #[inline(always)]
+#[tactic(auto, unfolding(crate::specs::Block::gb))]
 pub(super) fn gb(v: [u64x16; 4]) -> [u64x16; 4]
     ensures { (j : ℕ) → j < 16
         → (
@@ -133,6 +134,7 @@ fn perm_pairs(v: [u64x16; 4]) -> [u64x16; 4]
 
 // The second four lanes of each half of a and the first four of each half of b change places.
 #[inline(always)]
+#[tactic(auto, using(crate::proofs::block_lemmas::LaneLemmas::lane_steps))]
 fn exchange_fours(a: u64x16, b: u64x16) -> (u64x16, u64x16)
     ensures left { result.0 ≡ exchanged_left 16 4 a b }
     ensures right { result.1 ≡ exchanged_right 16 4 a b }
@@ -150,6 +152,7 @@ fn exchange_fours(a: u64x16, b: u64x16) -> (u64x16, u64x16)
 
 // The second half of a and the first half of b change places.
 #[inline(always)]
+#[tactic(auto, using(crate::proofs::block_lemmas::LaneLemmas::lane_steps))]
 fn exchange_halves(a: u64x16, b: u64x16) -> (u64x16, u64x16)
     ensures left { result.0 ≡ exchanged_left 16 8 a b }
     ensures right { result.1 ≡ exchanged_right 16 8 a b }

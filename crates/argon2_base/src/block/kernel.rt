@@ -90,6 +90,7 @@ fn perm(v: [u64x8; 16]) -> [u64x8; 16]
 
 // The lanes of two vectors in turn.
 #[inline(always)]
+#[tactic(auto, using(crate::proofs::block_lemmas::LaneLemmas::lane_steps))]
 fn interleave(a: u64x8, b: u64x8) -> (u64x8, u64x8)
     ensures left { (j : ℕ) → j < 8 → slice_index result.0 j
         ≡ slice_index (if j % 2 == 0 then a else b) (j / 2) }
@@ -101,6 +102,7 @@ fn interleave(a: u64x8, b: u64x8) -> (u64x8, u64x8)
 
 // The odd lanes of a and the even lanes of b change places.
 #[inline(always)]
+#[tactic(auto, using(crate::proofs::block_lemmas::LaneLemmas::lane_steps))]
 fn exchange_ones(a: u64x8, b: u64x8) -> (u64x8, u64x8)
     ensures left { result.0 ≡ exchanged_left 8 1 a b }
     ensures right { result.1 ≡ exchanged_right 8 1 a b }
@@ -112,6 +114,7 @@ fn exchange_ones(a: u64x8, b: u64x8) -> (u64x8, u64x8)
 
 // The second pair of each half of a and the first pair of each half of b change places.
 #[inline(always)]
+#[tactic(auto, using(crate::proofs::block_lemmas::LaneLemmas::lane_steps))]
 fn exchange_twos(a: u64x8, b: u64x8) -> (u64x8, u64x8)
     ensures left { result.0 ≡ exchanged_left 8 2 a b }
     ensures right { result.1 ≡ exchanged_right 8 2 a b }
@@ -123,6 +126,7 @@ fn exchange_twos(a: u64x8, b: u64x8) -> (u64x8, u64x8)
 
 // The second half of a and the first half of b change places.
 #[inline(always)]
+#[tactic(auto, using(crate::proofs::block_lemmas::LaneLemmas::lane_steps))]
 fn exchange_fours(a: u64x8, b: u64x8) -> (u64x8, u64x8)
     ensures left { result.0 ≡ exchanged_left 8 4 a b }
     ensures right { result.1 ≡ exchanged_right 8 4 a b }
@@ -174,6 +178,7 @@ fn load_xor(x: &[u64; 128], y: &[u64; 128], at: usize) -> u64x8
 
 // Writes the exclusive or of two vectors from a place on.
 #[inline(always)]
+#[tactic(auto, using(crate::proofs::block_lemmas::LaneLemmas::lane_steps))]
 pub(super) fn store_xor(words: &mut [u64], at: usize, v: u64x8, r: u64x8)
     requires { at + 8 ≤ length words.old }
     ensures here { (k : ℕ) → k < 8 → slice_index words.new (at + k)

@@ -1,5 +1,0 @@
-use Rattle.argon2_base.proofs.block_lemmas.LaneLemmas.{exchanged_twos}
-use Rattle.argon2_base.proofs.block.kernel.exchange_twos.Goals as goal
-
-pub returns : goal.returns
-returns c = let both = exchanged_twos c.args.a c.fits-a.0 c.args.b c.fits-b.0 in record { left = both.0; right = both.1 }
