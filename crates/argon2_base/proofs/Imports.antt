@@ -5,18 +5,18 @@ pub use Rattle.std.proofs.Common.{subst, suc, sym, take, true, zero, zero-add, â
 pub use Rattle.std.proofs.lemmas.Bool.{and_parts, cases_lt, eqb-false, falseâ‰¢true, le-leb, le-ltb, leb-true, lt-ltb, ltb-true, ne_eqb}
 pub use Rattle.std.proofs.lemmas.Bool.Decides.{Decides-and, Decides-eqb, nat_tests, same_from_decides}
 pub use Rattle.std.proofs.lemmas.Fmt.{IsAscii-decimal, decimal_by_steps, decimal_digit, decimal_is_IsNumeral, decimal_step, length-decimal-le, parse-decimal}
-pub use Rattle.std.proofs.lemmas.Grind.{common_steps, flat_map-append, same_number_lists}
+pub use Rattle.std.proofs.lemmas.Grind.{same_number_lists}
 pub use Rattle.std.proofs.lemmas.List.{drop-append-le, drop-drop, drop-replicate, drop_all, ext_get_or, get_or-append_right, get_or-map, get_or-replicate, get_or_append_left}
-pub use Rattle.std.proofs.lemmas.List.{length-replicate, length-set, take-append-drop, take-append-le, take_all, take_at, take_more, take_more_set, take_rest}
+pub use Rattle.std.proofs.lemmas.List.{length-replicate, length-set, take-append-drop, take-append-le, take_all, take_at, take_more_set, take_rest}
 pub use Rattle.std.proofs.lemmas.List.Elements.{All-from_get_or, All-from_recursion, All-get_or, recursion_from_All}
 pub use Rattle.std.proofs.lemmas.List.Folds.{length-flat_map-take, list_all-append, list_all_at}
 pub use Rattle.std.proofs.lemmas.List.FromFn.{get_or-map-range_with_len, length-map-range_with_len, map-range_with_len_more}
 pub use Rattle.std.proofs.lemmas.List.Splits.{join_with_byte-slice_split, length-slice_split, slice_split_at, slice_split_none}
 pub use Rattle.std.proofs.lemmas.Nat.{and_mask, le_or_l, le_or_r, xor_comm}
-pub use Rattle.std.proofs.lemmas.Simd.{get_or-chunk, get_or-put_chunk_above, get_or-put_chunk_at, get_or-put_chunk_below, get_or-zip2, length-zip2, pick_l_whole}
+pub use Rattle.std.proofs.lemmas.Simd.{get_or-chunk, get_or-zip2, length-zip2, pick_l_whole}
 pub use Rattle.std.proofs.lemmas.Slice.{drop-append-drop, take-put_mid}
 pub use Rattle.std.proofs.lemmas.Slice.Eq.{bytes_eq-Decides}
-pub use Rattle.std.proofs.lemmas.Str.{IsCharBoundary-after_ascii, IsUtf8-append, IsUtf8-from_ascii, IsUtf8-nil, encode_ascii}
+pub use Rattle.std.proofs.lemmas.Str.{IsCharBoundary-after_ascii, IsUtf8-append, IsUtf8-from_ascii, IsUtf8-nil}
 pub use Rattle.std.proofs.lemmas.Str.Ascii.{IsAscii-cons, IsAscii-from_all, IsAscii-nil}
 pub use Rattle.std.proofs.lemmas.Str.Pattern.{split_parts, strip_prefix_char}
 pub use Rattle.std.specs.Borrow.{Bor}
@@ -27,8 +27,8 @@ pub use Rattle.std.specs.List.{AllByRecursion, flat_map, join_with_byte, list_al
 pub use Rattle.std.specs.Prelude.{IfSome, IsNone, IsSome, is_none, is_some}
 pub use Rattle.std.specs.Simd.Lanes.{pick_l, zip2}
 pub use Rattle.std.specs.Str.{IsUtf8, bytes_eq}
-pub use Rattle.argon2_base.specs.Blake2b.{block_count, blocks, initial_state, mix_at, sigma, working_vector, xor_halves}
-unfoldable pub use Rattle.argon2_base.specs.Blake2b.{blake2b, compress, hash_blocks, mix, round, rounds, words}
+pub use Rattle.argon2_base.specs.Blake2b.{block_count, blocks, initial_state, sigma}
+unfoldable pub use Rattle.argon2_base.specs.Blake2b.{blake2b, compress, hash_blocks, round, rounds, words}
 pub use Rattle.argon2_base.specs.Block.{bytes_of}
 unfoldable pub use Rattle.argon2_base.specs.Block.{add_mul, by_columns, by_rows, column, gb, mix_columns, mix_diagonals, mixed, perm, row, words_of, xor_blocks, xor_rotate}
 pub use Rattle.argon2_base.specs.ByteList.{IsBase64Cause, base64_length, list_bytes}
@@ -48,4 +48,4 @@ pub use Rattle.base64.specs.GeneralPurpose.{decode_of, decode_slice_of, decoded_
 unfoldable pub use Rattle.base64.specs.GeneralPurpose.{decoded_of}
 unfoldable pub use Rattle.base64.specs.Rfc4648.{encode_symbols}
 pub use Rattle.base64.specs.declared.decode.DecodeError.{DecodeError}
-pub use borrow.Rule.Slice.PartMut.{post_of, put_mid, same_len_mid}
+pub use borrow.Rule.Slice.PartMut.{post_of, put_mid}

@@ -2,4 +2,3 @@ pub mod ChainLemmas
 pub mod LaneLemmas
 pub mod MixingLaws
 pub mod MixingLemmas
-pub mod WordBytes

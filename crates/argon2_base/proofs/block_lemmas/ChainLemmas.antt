@@ -1,7 +1,7 @@
 -- Vectors of sixteen lanes, and P on groups of lanes of four of them.
 use Rattle.argon2_base.proofs.Imports.{◌≡◌, ℕ, zero, suc, ◌<◌, ◌+◌, ◌%◌, List, [], ◌∷◌, ◌++◌, length, slice_index, map, arith, refl, ap, ◌∙◌, lit<, range_with_len, get_or-map}
-use Rattle.argon2_base.proofs.Imports.{get_or_append_left, pick_l, gb, mix_diagonals, perm, column_lanes, exchanged_left, exchanged_right, fours, group, lane_word, pairs, vector_words}
-use Rattle.argon2_base.proofs.block_lemmas.LaneLemmas.{columns_mixed, diagonals_mixed, Exchanges, row_at, two_vectors, word_at}
+use Rattle.argon2_base.proofs.Imports.{get_or_append_left, pick_l, gb, mix_diagonals, perm, exchanged_left, exchanged_right, fours, group, lane_word, vector_words}
+use Rattle.argon2_base.proofs.block_lemmas.LaneLemmas.{columns_mixed, diagonals_mixed, row_at, word_at}
 
 -- what is true of 0 to 3 is true of each number below 4
 pub below_four : (P : ℕ → Type 0) → P 0 → P 1 → P 2 → P 3 → (k : ℕ) → k < 4 → P k
@@ -51,15 +51,6 @@ group_permuted lane x a b c d at ct dt e f g h ea gc hd first to_a to_c to_d sec
     ∙ ap mix_diagonals (columns_mixed _ _ _ _ _ _ _ _ _ _ _ _ _ _ _ _ _ _ _ _
     (first 0 (lit< tt)) (first 1 (lit< tt)) (first 2 (lit< tt)) (first 3 (lit< tt)))
 
-pub exchanged_fours_of_sixteen : Exchanges 16 4
-    (0 ∷ 1 ∷ 2 ∷ 3 ∷ 16 ∷ 17 ∷ 18 ∷ 19 ∷ 8 ∷ 9 ∷ 10 ∷ 11 ∷ 24 ∷ 25 ∷ 26 ∷ 27 ∷ [])
-    (4 ∷ 5 ∷ 6 ∷ 7 ∷ 20 ∷ 21 ∷ 22 ∷ 23 ∷ 12 ∷ 13 ∷ 14 ∷ 15 ∷ 28 ∷ 29 ∷ 30 ∷ 31 ∷ [])
-exchanged_fours_of_sixteen = two_vectors 16 _ (λ a b. (refl, refl))
-
-pub exchanged_halves : Exchanges 16 8 (0 ∷ 1 ∷ 2 ∷ 3 ∷ 4 ∷ 5 ∷ 6 ∷ 7 ∷ 16 ∷ 17 ∷ 18 ∷ 19 ∷ 20 ∷ 21 ∷ 22 ∷ 23 ∷ [])
-    (8 ∷ 9 ∷ 10 ∷ 11 ∷ 12 ∷ 13 ∷ 14 ∷ 15 ∷ 24 ∷ 25 ∷ 26 ∷ 27 ∷ 28 ∷ 29 ∷ 30 ∷ 31 ∷ [])
-exchanged_halves = two_vectors 16 _ (λ a b. (refl, refl))
-
 -- four vectors of which groups of four lanes, and then halves, changed places
 abbrev transposed : List (List ℕ) → List (List ℕ)
 transposed x =
@@ -74,21 +65,3 @@ fours_of_transposed x = below_four _ refl refl refl refl
 
 pub vectors_of_transposed : (x : List (List ℕ)) (i : ℕ) → i < 4 → vector_words i (transposed x) ≡ fours i x
 vectors_of_transposed x = below_four _ refl refl refl refl
-
--- the left halves of eight vectors, two in one, and the right halves
-abbrev left_halves : List (List ℕ) → List (List ℕ)
-left_halves x =
-    exchanged_left 16 8 (row_at x 0) (row_at x 1) ∷ exchanged_left 16 8 (row_at x 2) (row_at x 3)
-    ∷ exchanged_left 16 8 (row_at x 4) (row_at x 5) ∷ exchanged_left 16 8 (row_at x 6) (row_at x 7) ∷ []
-
-abbrev right_halves : List (List ℕ) → List (List ℕ)
-right_halves x =
-    exchanged_right 16 8 (row_at x 0) (row_at x 1) ∷ exchanged_right 16 8 (row_at x 2) (row_at x 3)
-    ∷ exchanged_right 16 8 (row_at x 4) (row_at x 5) ∷ exchanged_right 16 8 (row_at x 6) (row_at x 7) ∷ []
-
--- whose pairs are the columns
-pub columns_of_left_halves : (x : List (List ℕ)) (j : ℕ) → j < 4 → pairs j (left_halves x) ≡ column_lanes (0 + j) x
-columns_of_left_halves x = below_four _ refl refl refl refl
-
-pub columns_of_right_halves : (x : List (List ℕ)) (j : ℕ) → j < 4 → pairs j (right_halves x) ≡ column_lanes (4 + j) x
-columns_of_right_halves x = below_four _ refl refl refl refl

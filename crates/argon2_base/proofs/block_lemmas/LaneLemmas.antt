@@ -32,22 +32,6 @@ below_sixteen P a0 a1 a2 a3 a4 a5 a6 a7 b0 b1 b2 b3 b4 b5 b6 b7 k h =
     (below_two _ b0 b1) (below_two _ b2 b3) (below_two _ b4 b5) (below_two _ b6 b7)
     (k / 2) (omega arith) (k % 2) (omega arith))
 
--- what is true of each list of n elements
-pub any_vector : (n : ℕ) (P : List ℕ → Type 0) → ((x : List ℕ) → P (map (slice_index x) (range_with_len 0 n)))
-    → (x : List ℕ) → length x ≡ n → P x
-any_vector n P p x long =
-    let same_length : length (map (slice_index x) (range_with_len 0 n)) ≡ n = length-map-range_with_len (slice_index x) 0 n in
-    subst P (ext_get_or 0 (map (slice_index x) (range_with_len 0 n)) x (same_length ∙ sym long) (λ k h.
-    get_or-map-range_with_len (slice_index x) 0 n k k 0 (omega arith) (omega arith))) (p x)
-
--- what is true of any two lists of n elements
-pub two_vectors : (n : ℕ) (P : List ℕ → List ℕ → Type 0)
-    → ((x y : List ℕ) → P (map (slice_index x) (range_with_len 0 n)) (map (slice_index y) (range_with_len 0 n)))
-    → (x : List ℕ) → length x ≡ n → (y : List ℕ) → length y ≡ n → P x y
-two_vectors n P p =
-    any_vector n (λ x. (y : List ℕ) → length y ≡ n → P x y) (λ x.
-    any_vector n (P (map (slice_index x) (range_with_len 0 n))) (p x))
-
 -- the steps of one word give u + v + 2 * low32(u) * low32(v)
 add_mul_word : (a b : ℕ) → (let p = bit_and a 0xffffffff * bit_and b 0xffffffff % 2 ^ 64 in
     ((a + b) % 2 ^ 64 + (p + p) % 2 ^ 64) % 2 ^ 64) ≡ add_mul a b
@@ -105,40 +89,6 @@ pub diagonals_mixed : (m0 m1 m2 m3 : ℕ × ℕ × ℕ × ℕ) (a0 a1 a2 a3 b0 b
     ≡ mix_diagonals (a0 ∷ a1 ∷ a2 ∷ a3 ∷ b0 ∷ b1 ∷ b2 ∷ b3 ∷ c0 ∷ c1 ∷ c2 ∷ c3 ∷ d0 ∷ d1 ∷ d2 ∷ d3 ∷ [])
 unfolding mix_diagonals
 diagonals_mixed m0 m1 m2 m3 a0 a1 a2 a3 b0 b1 b2 b3 c0 c1 c2 c3 d0 d1 d2 d3 e0 e1 e2 e3 = rw (e0, e1, e2, e3) refl
-
--- two shuffles of two vectors exchange lanes
-abbrev pub Exchanges : ℕ → ℕ → List ℕ → List ℕ → Type 0
-Exchanges lanes n lefts rights = (a : List ℕ) → length a ≡ lanes → (b : List ℕ) → length b ≡ lanes
-    → (pick_l 0 (a ++ b) lefts ≡ exchanged_left lanes n a b) × (pick_l 0 (a ++ b) rights ≡ exchanged_right lanes n a b)
-
-pub exchanged_ones : Exchanges 8 1 (0 ∷ 8 ∷ 2 ∷ 10 ∷ 4 ∷ 12 ∷ 6 ∷ 14 ∷ []) (1 ∷ 9 ∷ 3 ∷ 11 ∷ 5 ∷ 13 ∷ 7 ∷ 15 ∷ [])
-exchanged_ones = two_vectors 8 _ (λ a b. (refl, refl))
-
-pub exchanged_twos : Exchanges 8 2 (0 ∷ 1 ∷ 8 ∷ 9 ∷ 4 ∷ 5 ∷ 12 ∷ 13 ∷ []) (2 ∷ 3 ∷ 10 ∷ 11 ∷ 6 ∷ 7 ∷ 14 ∷ 15 ∷ [])
-exchanged_twos = two_vectors 8 _ (λ a b. (refl, refl))
-
-pub exchanged_fours : Exchanges 8 4 (0 ∷ 1 ∷ 2 ∷ 3 ∷ 8 ∷ 9 ∷ 10 ∷ 11 ∷ []) (4 ∷ 5 ∷ 6 ∷ 7 ∷ 12 ∷ 13 ∷ 14 ∷ 15 ∷ [])
-exchanged_fours = two_vectors 8 _ (λ a b. (refl, refl))
-
--- lane i of each of eight vectors
-abbrev lanes : List (List ℕ) → ℕ → List ℕ
-lanes x i =
-    lane_word x 0 i ∷ lane_word x 1 i ∷ lane_word x 2 i ∷ lane_word x 3 i
-    ∷ lane_word x 4 i ∷ lane_word x 5 i ∷ lane_word x 6 i ∷ lane_word x 7 i ∷ []
-
--- a vector of these, lane by lane
-pub turned_lanes : (x : List (List ℕ)) (v : List ℕ) (i : ℕ) → v ≡ lanes x i → (k : ℕ) → k < 8 → slice_index v k ≡ lane_word x k i
-turned_lanes x v i same k h =
-    rw same (below_eight (λ k. slice_index (lanes x i) k ≡ lane_word x k i) refl refl refl refl refl refl refl refl k h)
-
--- the lanes of two vectors in turn
-pub interleaved_words : (a : List ℕ) → length a ≡ 8 → (b : List ℕ) → length b ≡ 8
-    → ((j : ℕ) → j < 8 → slice_index (pick_l 0 (a ++ b) (0 ∷ 8 ∷ 1 ∷ 9 ∷ 2 ∷ 10 ∷ 3 ∷ 11 ∷ [])) j
-    ≡ slice_index (if j % 2 == 0 then a else b) (j / 2))
-    × ((j : ℕ) → j < 8 → slice_index (pick_l 0 (a ++ b) (4 ∷ 12 ∷ 5 ∷ 13 ∷ 6 ∷ 14 ∷ 7 ∷ 15 ∷ [])) j
-    ≡ slice_index (if j % 2 == 0 then a else b) (4 + j / 2))
-interleaved_words = two_vectors 8 _ (λ a b.
-    (below_eight _ refl refl refl refl refl refl refl refl, below_eight _ refl refl refl refl refl refl refl refl))
 
 -- a word of sixteen
 pub word_at : (f : ℕ → ℕ) (k : ℕ) → k < 16 → slice_index (map f (range_with_len 0 16)) k ≡ f k

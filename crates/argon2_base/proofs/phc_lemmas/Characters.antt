@@ -1,5 +1,5 @@
 -- What follows from a test of each character.
-use Rattle.argon2_base.proofs.Imports.{◌≡◌, ℕ, ◌<◌, ◌≤◌, Bool, true, false, List, [], ◌∷◌, length, arith, ◌==◌, nat_tests, and_parts, list_all, AllByRecursion, IsUtf8, All-from_recursion}
+use Rattle.argon2_base.proofs.Imports.{◌≡◌, ℕ, ◌<◌, Bool, true, false, List, [], ◌∷◌, arith, ◌==◌, nat_tests, and_parts, list_all, AllByRecursion, IsUtf8, All-from_recursion}
 use Rattle.argon2_base.proofs.Imports.{IsUtf8-from_ascii, IsAscii-from_all, is_name_char, is_name}
 
 -- each element is what passing elements are
@@ -11,10 +11,6 @@ tests_give p P gives (x ∷ s) h = let b = and_parts (p x) (list_all p s) h in (
 -- the characters of a name
 pub name_chars : (s : List ℕ) → is_name s ≡ true → list_all is_name_char s ≡ true
 name_chars s h = (and_parts _ (list_all is_name_char s) h).1
-
--- a text that is a name has at most 32 characters
-pub name_length : {text s : List ℕ} → text ≡ s → is_name s ≡ true → length text ≤ 32
-name_length e h = grind (arith, nat_tests)
 
 -- a name is text
 pub IsUtf8-name : (s : List ℕ) → is_name s ≡ true → IsUtf8 s

@@ -1,9 +1,8 @@
 -- The fields of a text, and the text of the fields.
 use Rattle.argon2_base.proofs.Imports.{◌≡◌, ◌≢◌, ℕ, ◌<◌, ◌^◌, true, false, List, [], ◌∷◌, ◌++◌, length, refl, sym, ap, ◌∙◌, subst, arith, Option, Some, None, Ok, Err, codes, ◌==◌, ◌+◌, drop}
-use Rattle.argon2_base.proofs.Imports.{lit<, flat_map-append, and_parts, IfSome, IsSome, IsNone, is_some, Bor, strip_prefix_char, join_with_byte-slice_split, length-slice_split, list_all}
-use Rattle.argon2_base.proofs.Imports.{flat_map, AllByRecursion, join_with_byte, decimal, IsBytes, is_value_char, strict_base64, HasBytes, IsPhc, Pair, Phc, PhcText, are_params, field}
-use Rattle.argon2_base.proofs.Imports.{fields, fields_text, is_param, item, list_field, params_text, phc_text, version_text, fields_of, fields_left, IsBytesField, NoVersionFirst}
-use Rattle.argon2_base.proofs.Imports.{NoItemFirst}
+use Rattle.argon2_base.proofs.Imports.{lit<, and_parts, IfSome, IsSome, IsNone, is_some, Bor, strip_prefix_char, join_with_byte-slice_split, length-slice_split, list_all, flat_map}
+use Rattle.argon2_base.proofs.Imports.{AllByRecursion, join_with_byte, decimal, IsBytes, is_value_char, strict_base64, HasBytes, IsPhc, Pair, Phc, PhcText, are_params, field, fields}
+use Rattle.argon2_base.proofs.Imports.{is_param, item, list_field, params_text, phc_text, version_text, fields_of, fields_left, IsBytesField, NoVersionFirst, NoItemFirst}
 use Rattle.std.proofs.Common.{append_assoc}
 use Rattle.std.proofs.lemmas.List.{append-nil}
 use Rattle.std.specs.Str.Pattern.{FindsCharPrefix}
@@ -188,21 +187,4 @@ pub left_none : (o : Option (Bor (List ℕ))) → fields_left o ≡ [] → is_so
 left_none None e = refl
 left_none (Some x) e = absurd (omega (arith, ap length e, length-slice_split (λ b. b == 36) x.now))
 
--- no field if nothing is left
-pub none_left : (o : Option (Bor (List ℕ))) → is_some o ≡ false → fields_left o ≡ []
-none_left o e = grind arith
-
--- a hash that was read has a salt before it
-pub salt_before_hash : (s o : Option (List ℕ)) (left left' : Option (Bor (List ℕ))) → (IsNone s → left ≡ None)
-    → fields_left left ≡ field strict_base64 o ++ fields_left left' → is_some o ≡ true → is_some s ≡ true
-salt_before_hash s o left more h e some = grind arith
-
 -- ---- printing
-
--- the fields that were printed one after the other
-pub text_of_printed : (v : Phc) {t0 t1 t2 t3 t4 t5 first : List ℕ} {salt hash : List (List ℕ)} → t0 ≡ [] → t1 ≡ t0 ++ 36 ∷ first
-    → first ≡ v.algorithm → t2 ≡ t1 ++ fields_text (field version_text v.version)
-    → t3 ≡ t2 ++ fields_text (list_field v.params) → t4 ≡ t3 ++ fields_text salt → salt ≡ field strict_base64 v.salt
-    → t5 ≡ t4 ++ fields_text hash → hash ≡ field strict_base64 v.hash → t5 ≡ phc_text v
-text_of_printed v {first = first} e0 e1 ea e2 e3 e4 es e5 eh =
-    rw (e5, eh, e4, es, e3, e2) (simp append_assoc (rw (e1, e0, ea) (simp flat_map-append)))

@@ -1,4 +1,4 @@
-use Rattle.argon2_base.proofs.Imports.{◌≡◌, ◌∙◌, ◌+◌, ◌-◌, ◌*◌, add-one, ap, arith, refl, take, drop, false, compress, hash_on}
+use Rattle.argon2_base.proofs.Imports.{◌≡◌, ◌∙◌, ◌+◌, ◌-◌, ◌*◌, add-one, arith, refl, take, drop, false, compress, hash_on}
 use Rattle.argon2_base.proofs.blake2b.compress_all_but_last.Goals as goal
 
 pub blocks-2-init : goal.blocks-2-init
@@ -12,6 +12,3 @@ blocks-2-preserved c =
     let n : 128 * c.blocks-2.i + 128 - 128 * c.blocks-2.i ≡ 128 = omega arith in
     rw add-one (c.compress.ensures ∙ (λ p. compress (c.blocks-2.invariant p) (take (n p) (drop (a p) c.args.input.now))
     (c.args.total + (a p + 128)) false))
-
-pub returns-clause-hash : goal.returns-clause-hash
-returns-clause-hash c = c.blocks-2.invariant ∙ ap (hash_on c.args.h.now c.args.total c.args.input.now) (omega arith)

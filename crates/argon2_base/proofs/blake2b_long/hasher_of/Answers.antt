@@ -1,4 +1,3 @@
-use Rattle.argon2_base.proofs.Imports.{◌≡◌, take, arith, take_all}
 use Rattle.argon2_base.proofs.blake2b_lemmas.Pieces.{input_fits}
 use Rattle.argon2_base.proofs.blake2b_long.hasher_of.Goals as goal
 
@@ -6,9 +5,3 @@ pub update-requires-in-inputs : goal.update-requires-in-inputs
 update-requires-in-inputs c =
     input_fits c.args.inputs.now c.inputs.input-index _ _ c.inputs-test.true
     c.inputs.invariant.message_len c.requires.in_range
-
-pub returns-clause-holds : goal.returns-clause-holds
-returns-clause-holds c =
-    let inputs = c.args.inputs.now in
-    let all : take c.inputs.input-index inputs ≡ inputs = take_all _ inputs (omega arith) in
-    rw all at c.inputs.invariant.holds

@@ -1,21 +1,6 @@
-use Rattle.argon2_base.proofs.Imports.{◌≡◌, ℕ, length, refl, ap, sym, ◌∙◌, arith, blake2b}
-use Rattle.std.proofs.Common.{length-take-le}
-use Rattle.argon2_base.proofs.blake2b_lemmas.HasherFields.{held_by_fields, zeros_len, block_len, digest_written}
+use Rattle.argon2_base.proofs.Imports.{◌≡◌, ℕ, length, refl, ap, sym, ◌∙◌, blake2b}
+use Rattle.argon2_base.proofs.blake2b_lemmas.HasherFields.{held_by_fields, digest_written}
 use Rattle.argon2_base.proofs.blake2b.Blake2b.finalize_into.Goals as goal
-
-pub copy_from_slice-requires : goal.copy_from_slice-requires
-copy_from_slice-requires c =
-    zeros_len c.held_len-filled.result c.self.inside.total c.self.inside.buffer c.held_len-filled.ensures (omega arith)
-
-pub compress-requires : goal.compress-requires
-compress-requires c =
-    block_len c.held_len-filled.result c.self.inside.total _ c.self.inside.buffer c.held_len-filled.ensures
-    c.copy_from_slice.ensures.after (omega arith)
-
-pub copy_from_slice-requires-2 : goal.copy_from_slice-requires-2
-copy_from_slice-requires-2 c =
-    let len : c.self.inside.len ≡ length c.args.out.now = ap (λ r. r.digest_len) c.self.view_is ∙ sym c.requires in
-    sym (length-take-le c.self.inside.len c.le_bytes.result (omega arith) ∙ len)
 
 pub returns : goal.returns
 returns c = λ m held.

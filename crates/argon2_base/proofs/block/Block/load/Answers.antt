@@ -1,8 +1,5 @@
-use Rattle.argon2_base.proofs.Imports.{arith, common_steps, take_all, words_of}
+use Rattle.argon2_base.proofs.Imports.{arith, take_all, words_of}
 use Rattle.argon2_base.proofs.block.Block.load.Goals as goal
-
-pub words-preserved : goal.words-preserved
-words-preserved c = grind (arith, common_steps)
 
 pub returns : goal.returns
 unfolding words_of

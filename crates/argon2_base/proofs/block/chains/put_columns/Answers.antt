@@ -50,12 +50,3 @@ vectors-preserved c =
           ])
           ∙ before.others w half;
     }
-
-pub returns : goal.returns
-returns c =
-    let all = c.vectors.invariant in
-    record {
-      size = all.long;
-      here = λ w below half. all.done w (omega arith) half;
-      others = all.others;
-    }

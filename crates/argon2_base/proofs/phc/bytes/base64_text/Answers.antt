@@ -1,10 +1,6 @@
-use Rattle.argon2_base.proofs.Imports.{◌∙◌, arith}
-use Rattle.argon2_base.proofs.phc_lemmas.Base64Lemmas.{length-strict_base64, strict_base64_written, IsUtf8-strict_base64}
+use Rattle.argon2_base.proofs.Imports.{◌∙◌}
+use Rattle.argon2_base.proofs.phc_lemmas.Base64Lemmas.{strict_base64_written, IsUtf8-strict_base64}
 use Rattle.argon2_base.proofs.phc.bytes.base64_text.Goals as goal
-
-pub unreachable-requires : goal.unreachable-requires
-unreachable-requires g c =
-    let fits = c.encode_slice.ensures.fits (omega (arith, length-strict_base64 c.args.bytes.now, c.requires)) in cc
 
 pub unreachable-requires-in_default-from_utf8 : goal.unreachable-requires-in_default-from_utf8
 unreachable-requires-in_default-from_utf8 g c =

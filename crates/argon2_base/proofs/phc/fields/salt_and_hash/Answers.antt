@@ -1,11 +1,7 @@
 use Rattle.argon2_base.proofs.Imports.{[], refl, sym, ◌∙◌, strict_base64, field}
 use Rattle.std.proofs.lemmas.List.{append-nil}
-use Rattle.argon2_base.proofs.phc_lemmas.PhcTextLemmas.{none_after, left_none, none_left, salt_before_hash}
+use Rattle.argon2_base.proofs.phc_lemmas.PhcTextLemmas.{none_after, left_none}
 use Rattle.argon2_base.proofs.phc.fields.salt_and_hash.Goals as goal
-
-pub returns-in_err-salt-clause-only : goal.returns-in_err-salt-clause-only
-returns-in_err-salt-clause-only c = λ s o hs ho salted e.
-    absurd (c.in_err-salt.ensures.only s (field strict_base64 o) hs (none_after s o salted) e)
 
 pub returns-in_err-hash-clause-only : goal.returns-in_err-hash-clause-only
 returns-in_err-hash-clause-only c = λ s o hs ho salted e.
@@ -18,20 +14,3 @@ returns-then-is_some-clause-only c = λ s o hs ho salted e.
     let g = c.in_ok-hash.ensures.only o [] ho (λ _. refl) (f.1 ∙ sym (append-nil (field strict_base64 o))) in
     let none = left_none c.in_ok-hash.left g.1 in
     cc
-
-pub returns-clause-only : goal.returns-clause-only
-returns-clause-only c = λ s o hs ho salted e.
-    let f = c.in_ok-salt.ensures.only s (field strict_base64 o) hs (none_after s o salted) e in
-    let g = c.in_ok-hash.ensures.only o [] ho (λ _. refl) (f.1 ∙ sym (append-nil (field strict_base64 o))) in
-    (f.0, g.0)
-
-pub returns-clause-found : goal.returns-clause-found
-returns-clause-found c =
-    let salt = c.in_ok-salt.ensures in
-    let hash = c.in_ok-hash.ensures in
-    let none = none_left c.in_ok-hash.left (sym c.if-is_some.ensures) in (
-      rw (salt.found.0, hash.found.0, none, append-nil) refl,
-      salt.found.1,
-      hash.found.1,
-      salt_before_hash c.in_ok-salt.salt c.in_ok-hash.hash c.in_ok-salt.left c.in_ok-hash.left salt.end hash.found.0,
-    )

@@ -31,11 +31,6 @@ returns-in_err-salt-clause-only c = λ v h.
     let f2 = c.in_ok-params.ensures.only v.params (from_salt v) h.0.params (no_item v h.0) f1.1 in
     absurd (c.in_err-salt.ensures.only v.salt v.hash h.0.salt h.0.hash h.0.salted f2.1)
 
-pub invariant_of-result : goal.invariant_of-result
-invariant_of-result c =
-    let name = rw (← c.in_ok-algorithm.ensures.value) at c.in_ok-algorithm.ensures.when in
-    assumption (name, c.in_ok-version.ensures, c.in_ok-params.ensures, c.in_ok-salt.ensures)
-
 pub returns-clause-only : goal.returns-clause-only
 returns-clause-only c = λ v h.
     let s = first_and_left c.args.text.now c.in-Some.text v h c.in-Some.ensures.cases c.first_field.ensures in
