@@ -1,22 +1,22 @@
 -- The words that the proofs of this crate use.
-pub use Rattle.std.proofs.Common.{All, Bool, Err, List, None, Ok, Option, Result, Some, T, [], add-one, add-zero, ap, ap₂, arith, below_more, bit_and, codes, drop, false, if◌then◌else◌, inl}
-pub use Rattle.std.proofs.Common.{inr, length, length-append, length-drop, lit<, ltb, map, min, nat_eq, nat_le, nat_lt, not, refl, replicate, rules, slice_index, slice_index_or, slice_set}
-pub use Rattle.std.proofs.Common.{subst, suc, sym, take, true, zero, zero-add, ℕ, ◌%◌, ◌&&◌, ◌*◌, ◌++◌, ◌+◌, ◌-◌, ◌/◌, ◌<◌, ◌==◌, ◌^◌, ◌∙◌, ◌∷◌, ◌≡◌, ◌≢◌, ◌≤◌}
-pub use Rattle.std.proofs.lemmas.Bool.{and_parts, cases_lt, eqb-false, false≢true, le-leb, le-ltb, leb-true, lt-ltb, ltb-true, ne_eqb}
+pub use Rattle.std.proofs.Common.{All, Bool, Err, List, None, Ok, Option, Result, Some, T, [], add-one, add-zero, ap, ap₂, arith, bit_and, codes, drop, false, if◌then◌else◌, inl, inr}
+pub use Rattle.std.proofs.Common.{length, length-append, length-drop, lit<, ltb, map, min, nat_eq, nat_le, nat_lt, not, refl, replicate, rules, slice_index, slice_index_or, subst, suc, sym}
+pub use Rattle.std.proofs.Common.{take, true, zero, zero-add, ℕ, ◌%◌, ◌&&◌, ◌*◌, ◌++◌, ◌+◌, ◌-◌, ◌/◌, ◌<◌, ◌==◌, ◌^◌, ◌∙◌, ◌∷◌, ◌≡◌, ◌≢◌, ◌≤◌}
+pub use Rattle.std.proofs.lemmas.Bool.{and_parts, cases_lt, eqb-false, le-leb, le-ltb, leb-true, lt-ltb, ltb-true, ne_eqb}
 pub use Rattle.std.proofs.lemmas.Bool.Decides.{Decides-and, Decides-eqb, nat_tests, same_from_decides}
-pub use Rattle.std.proofs.lemmas.Fmt.{IsAscii-decimal, decimal_by_steps, decimal_digit, decimal_is_IsNumeral, decimal_step, length-decimal-le, parse-decimal}
+pub use Rattle.std.proofs.lemmas.Fmt.{IsAscii-decimal, decimal_by_steps, decimal_is_IsNumeral, parse-decimal}
 pub use Rattle.std.proofs.lemmas.Grind.{same_number_lists}
 pub use Rattle.std.proofs.lemmas.List.{drop-append-le, drop-drop, drop-replicate, drop_all, ext_get_or, get_or-append_right, get_or-map, get_or-replicate, get_or_append_left}
-pub use Rattle.std.proofs.lemmas.List.{length-replicate, length-set, take-append-drop, take-append-le, take_all, take_at, take_more_set, take_rest}
+pub use Rattle.std.proofs.lemmas.List.{length-replicate, take-append-drop, take-append-le, take_all, take_at, take_rest}
 pub use Rattle.std.proofs.lemmas.List.Elements.{All-from_get_or, All-from_recursion, All-get_or, recursion_from_All}
 pub use Rattle.std.proofs.lemmas.List.Folds.{length-flat_map-take, list_all-append, list_all_at}
-pub use Rattle.std.proofs.lemmas.List.FromFn.{get_or-map-range_with_len, length-map-range_with_len, map-range_with_len_more}
+pub use Rattle.std.proofs.lemmas.List.FromFn.{get_or-map-range_with_len, length-map-range_with_len}
 pub use Rattle.std.proofs.lemmas.List.Splits.{join_with_byte-slice_split, length-slice_split, slice_split_at, slice_split_none}
 pub use Rattle.std.proofs.lemmas.Nat.{and_mask, le_or_l, le_or_r, xor_comm}
 pub use Rattle.std.proofs.lemmas.Simd.{get_or-chunk, get_or-zip2, length-zip2, pick_l_whole}
 pub use Rattle.std.proofs.lemmas.Slice.{drop-append-drop, take-put_mid}
 pub use Rattle.std.proofs.lemmas.Slice.Eq.{bytes_eq-Decides}
-pub use Rattle.std.proofs.lemmas.Str.{IsCharBoundary-after_ascii, IsUtf8-append, IsUtf8-from_ascii, IsUtf8-nil}
+pub use Rattle.std.proofs.lemmas.Str.{IsUtf8-append, IsUtf8-from_ascii, IsUtf8-nil}
 pub use Rattle.std.proofs.lemmas.Str.Ascii.{IsAscii-cons, IsAscii-from_all, IsAscii-nil}
 pub use Rattle.std.proofs.lemmas.Str.Pattern.{split_parts, strip_prefix_char}
 pub use Rattle.std.specs.Borrow.{Bor}
@@ -28,7 +28,7 @@ pub use Rattle.std.specs.Prelude.{IfSome, IsNone, IsSome, is_none, is_some}
 pub use Rattle.std.specs.Simd.Lanes.{pick_l, zip2}
 pub use Rattle.std.specs.Str.{IsUtf8, bytes_eq}
 pub use Rattle.argon2_base.specs.Blake2b.{block_count, blocks, initial_state, sigma}
-unfoldable pub use Rattle.argon2_base.specs.Blake2b.{blake2b, compress, hash_blocks, round, rounds, words}
+unfoldable pub use Rattle.argon2_base.specs.Blake2b.{blake2b, compress, hash_blocks, round, rounds}
 pub use Rattle.argon2_base.specs.Block.{bytes_of}
 unfoldable pub use Rattle.argon2_base.specs.Block.{add_mul, by_columns, by_rows, column, gb, mix_columns, mix_diagonals, mixed, perm, row, words_of, xor_blocks, xor_rotate}
 pub use Rattle.argon2_base.specs.ByteList.{IsBase64Cause, base64_length, list_bytes}

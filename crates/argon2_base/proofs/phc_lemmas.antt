@@ -4,6 +4,7 @@ pub mod Characters
 pub mod Compared
 pub mod DecimalLemmas
 pub mod Equalities
+pub mod ListSteps
 pub mod ParamsReading
 pub mod ParamsTextLemmas
 pub mod PhcTextLemmas

@@ -40,6 +40,7 @@ pub fn blake2b_long(inputs: &[&[u8]], out: &mut [u8]) -> Result<()>
 
 // The hasher of an output's length and the inputs, whose digest has as many bytes as the output, but at
 // most 64.
+#[tactic(auto, using(crate::proofs::blake2b_lemmas::Pieces::input_fits))]
 fn hasher_of(len: u32, inputs: &[&[u8]]) -> Blake2b
     requires some { 1 ≤ len }
     requires in_range { length (joined inputs.now) + 4 < 2 ^ 128 }

@@ -1,7 +1,7 @@
 -- Vectors of sixteen lanes, and P on groups of lanes of four of them.
-use Rattle.argon2_base.proofs.Imports.{◌≡◌, ℕ, zero, suc, ◌<◌, ◌+◌, ◌%◌, List, [], ◌∷◌, ◌++◌, length, slice_index, map, arith, refl, ap, ◌∙◌, lit<, range_with_len, get_or-map}
-use Rattle.argon2_base.proofs.Imports.{get_or_append_left, pick_l, gb, mix_diagonals, perm, exchanged_left, exchanged_right, fours, group, lane_word, vector_words}
-use Rattle.argon2_base.proofs.block_lemmas.LaneLemmas.{columns_mixed, diagonals_mixed, row_at, word_at}
+use Rattle.argon2_base.proofs.Imports.{◌≡◌, ℕ, zero, suc, ◌<◌, ◌+◌, ◌%◌, List, [], ◌∷◌, ◌++◌, length, slice_index, map, arith, refl, ap, ◌∙◌, range_with_len, get_or-map, get_or_append_left}
+use Rattle.argon2_base.proofs.Imports.{pick_l, gb, mix_columns, mix_diagonals, perm, exchanged_left, exchanged_right, fours, group, lane_word, vector_words}
+use Rattle.argon2_base.proofs.block_lemmas.LaneLemmas.{row_at, word_at}
 
 -- what is true of 0 to 3 is true of each number below 4
 pub below_four : (P : ℕ → Type 0) → P 0 → P 1 → P 2 → P 3 → (k : ℕ) → k < 4 → P k
@@ -35,24 +35,11 @@ pub group_permuted : (lane : ℕ → ℕ) (x : List (List ℕ)) (a b c d : List 
     → Mixes lane (at ∷ b ∷ ct ∷ dt ∷ []) (e ∷ f ∷ g ∷ h ∷ [])
     → Turns lane 1 e ea → Turns lane 3 g gc → Turns lane 2 h hd
     → group lane (ea ∷ f ∷ gc ∷ hd ∷ []) ≡ perm (group lane x)
-unfolding perm
-group_permuted lane x a b c d at ct dt e f g h ea gc hd first to_a to_c to_d second from_a from_c from_d =
-    let m : ℕ → ℕ × ℕ × ℕ × ℕ = λ k. (slice_index e (lane k), slice_index f (lane k), slice_index g (lane k), slice_index h (lane k)) in
-    let mixed : (k : ℕ) → k < 4 → m k ≡ gb (slice_index a (lane ((k + 3) % 4))) (slice_index b (lane k))
-    (slice_index c (lane ((k + 1) % 4))) (slice_index d (lane ((k + 2) % 4))) =
-    λ k below. second k below ∙ (λ p. gb (to_a k below p) (slice_index b (lane k)) (to_c k below p) (to_d k below p))
-    in
-    (λ p. from_a 0 (lit< tt) p ∷ from_a 1 (lit< tt) p ∷ from_a 2 (lit< tt) p ∷ from_a 3 (lit< tt) p
-    ∷ slice_index f (lane 0) ∷ slice_index f (lane 1) ∷ slice_index f (lane 2) ∷ slice_index f (lane 3)
-    ∷ from_c 0 (lit< tt) p ∷ from_c 1 (lit< tt) p ∷ from_c 2 (lit< tt) p ∷ from_c 3 (lit< tt) p
-    ∷ from_d 0 (lit< tt) p ∷ from_d 1 (lit< tt) p ∷ from_d 2 (lit< tt) p ∷ from_d 3 (lit< tt) p ∷ [])
-    ∙ diagonals_mixed (m 0) (m 1) (m 2) (m 3) _ _ _ _ _ _ _ _ _ _ _ _ _ _ _ _
-    (mixed 0 (lit< tt)) (mixed 1 (lit< tt)) (mixed 2 (lit< tt)) (mixed 3 (lit< tt))
-    ∙ ap mix_diagonals (columns_mixed _ _ _ _ _ _ _ _ _ _ _ _ _ _ _ _ _ _ _ _
-    (first 0 (lit< tt)) (first 1 (lit< tt)) (first 2 (lit< tt)) (first 3 (lit< tt)))
+unfolding perm mix_columns mix_diagonals
+group_permuted lane x a b c d at ct dt e f g h ea gc hd first to_a to_c to_d second from_a from_c from_d = grind arith
 
 -- four vectors of which groups of four lanes, and then halves, changed places
-abbrev transposed : List (List ℕ) → List (List ℕ)
+abbrev pub transposed : List (List ℕ) → List (List ℕ)
 transposed x =
     let a0 = exchanged_left 16 4 (row_at x 0) (row_at x 1) in
     let a1 = exchanged_right 16 4 (row_at x 0) (row_at x 1) in

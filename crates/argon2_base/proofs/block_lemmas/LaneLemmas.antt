@@ -3,12 +3,18 @@ use Rattle.argon2_base.proofs.Imports.{◌≡◌, ℕ, zero, suc, ◌<◌, ◌+�
 use Rattle.argon2_base.proofs.Imports.{replicate, arith, refl, ap, subst, ◌∙◌, lit<, sym, ap₂, range_with_len, and_mask, ext_get_or, get_or-replicate, length-replicate, get_or-zip2}
 use Rattle.argon2_base.proofs.Imports.{length-zip2, get_or-map-range_with_len, length-map-range_with_len, zip2, pick_l, add_mul, gb, mix_columns, mix_diagonals, row, xor_rotate}
 use Rattle.argon2_base.proofs.Imports.{exchanged_left, exchanged_right, lane, lane_word, words_in_eights}
-use Rattle.std.proofs.Common.{bit_or, bit_xor}
-use Rattle.std.proofs.lemmas.List.{get_or_append_left, get_or-append_right, get_or-drop, get_or-take}
-use Rattle.std.proofs.lemmas.Simd.{pick_l_whole, get_or-put_chunk_above, get_or-put_chunk_at, get_or-put_chunk_below}
+use Rattle.std.proofs.lemmas.Grind.{and_numeral}
+use Rattle.std.proofs.lemmas.List.{get_or_append_left, get_or-append_right}
+use Rattle.std.proofs.lemmas.Simd.{get_or-put_chunk_above, get_or-put_chunk_at, get_or-put_chunk_below}
 
--- a word of vectors that are cut out, written, put side by side or zipped
-pub ruleset lane_steps = (get_or-drop, get_or-take, get_or-put_chunk_above, get_or-put_chunk_at, get_or-put_chunk_below, get_or_append_left, get_or-append_right, pick_l_whole, get_or-zip2, length-zip2)
+-- a word of two vectors that are put together
+pub zip2_at : (f : ℕ → ℕ → ℕ) (a b : List ℕ) (j : ℕ) → j < length a → j < length b
+    → slice_index (zip2 f a b) j ≡ f (slice_index a j) (slice_index b j)
+zip2_at f a b j in_a in_b = get_or-zip2 f a b j 0 0 0 in_a in_b
+
+-- the words of vectors that are put side by side, put together or written
+pub ruleset lane_steps = (get_or_append_left, get_or-append_right, zip2_at, length-zip2, get_or-replicate,
+    length-replicate, and_numeral, get_or-put_chunk_above, get_or-put_chunk_at, get_or-put_chunk_below)
 
 -- what is true of 0 and 1 is true of each number below 2
 pub below_two : (P : ℕ → Type 0) → P 0 → P 1 → (e : ℕ) → e < 2 → P e
@@ -31,64 +37,6 @@ below_sixteen P a0 a1 a2 a3 a4 a5 a6 a7 b0 b1 b2 b3 b4 b5 b6 b7 k h =
     (below_two _ a0 a1) (below_two _ a2 a3) (below_two _ a4 a5) (below_two _ a6 a7)
     (below_two _ b0 b1) (below_two _ b2 b3) (below_two _ b4 b5) (below_two _ b6 b7)
     (k / 2) (omega arith) (k % 2) (omega arith))
-
--- the steps of one word give u + v + 2 * low32(u) * low32(v)
-add_mul_word : (a b : ℕ) → (let p = bit_and a 0xffffffff * bit_and b 0xffffffff % 2 ^ 64 in
-    ((a + b) % 2 ^ 64 + (p + p) % 2 ^ 64) % 2 ^ 64) ≡ add_mul a b
-unfolding add_mul
-add_mul_word a b = rw (and_mask a 32, and_mask b 32) (omega arith)
-
--- an element of two vectors of n lanes that are put together
-zipped : (n : ℕ) (f : ℕ → ℕ → ℕ) (a b : List ℕ) → length a ≡ n → length b ≡ n → (j : ℕ) → j < n
-    → slice_index (zip2 f a b) j ≡ f (slice_index a j) (slice_index b j)
-zipped n f a b long_a long_b j h = get_or-zip2 f a b j 0 0 0 (omega arith) (omega arith)
-
-length-zipped : (n : ℕ) (f : ℕ → ℕ → ℕ) (a b : List ℕ) → length a ≡ n → length b ≡ n → length (zip2 f a b) ≡ n
-length-zipped n f a b long_a long_b = length-zip2 f a b (long_a ∙ sym long_b) ∙ long_a
-
--- n words at once
-abbrev wrapped_add : List ℕ → List ℕ → List ℕ
-wrapped_add = zip2 (λ x y. (x + y) % 2 ^ 64)
-
-abbrev masked_product : ℕ → List ℕ → List ℕ → List ℕ
-masked_product n a b =
-    let low = replicate n 0xffffffff in zip2 (λ x y. x * y % 2 ^ 64) (zip2 bit_and a low) (zip2 bit_and b low)
-
-pub add_mul_lanes : (n : ℕ) (a b : List ℕ) → length a ≡ n → length b ≡ n → (j : ℕ) → j < n
-    → slice_index (wrapped_add (wrapped_add a b) (wrapped_add (masked_product n a b) (masked_product n a b))) j
-    ≡ add_mul (slice_index a j) (slice_index b j)
-add_mul_lanes n a b long_a long_b j h =
-    let long : length (masked_product n a b) ≡ n = simp (length-zipped n, length-replicate) in
-    simp (zipped n, length-zipped n, get_or-replicate, length-replicate, long)
-    (add_mul_word (slice_index a j) (slice_index b j))
-
--- two shifts of each lane and an or are a rotation
-pub shifts_rotate : (n k : ℕ) → 0 < k → k < 64 → (a b : List ℕ) → length a ≡ n → length b ≡ n → (j : ℕ) → j < n
-    → slice_index (zip2 bit_or
-    (zip2 (λ x m. x / 2 ^ m) (zip2 bit_xor a b) (replicate n k))
-    (zip2 (λ x m. x * 2 ^ m % 2 ^ 64) (zip2 bit_xor a b) (replicate n (64 - k)))) j
-    ≡ xor_rotate (slice_index a j) (slice_index b j) k
-unfolding xor_rotate
-shifts_rotate n k low high a b long_a long_b j h =
-    let left : (64 - k) % 64 ≡ 64 - k = omega arith in
-    let right : k % 64 ≡ k = omega arith in
-    simp (zipped n, length-zipped n, get_or-replicate, length-replicate, left, right)
-
--- the words that four mixings make, each of a column
-pub columns_mixed : (m0 m1 m2 m3 : ℕ × ℕ × ℕ × ℕ) (a0 a1 a2 a3 b0 b1 b2 b3 c0 c1 c2 c3 d0 d1 d2 d3 : ℕ)
-    → m0 ≡ gb a0 b0 c0 d0 → m1 ≡ gb a1 b1 c1 d1 → m2 ≡ gb a2 b2 c2 d2 → m3 ≡ gb a3 b3 c3 d3
-    → m0.0 ∷ m1.0 ∷ m2.0 ∷ m3.0 ∷ m0.1 ∷ m1.1 ∷ m2.1 ∷ m3.1 ∷ m0.2 ∷ m1.2 ∷ m2.2 ∷ m3.2 ∷ m0.3 ∷ m1.3 ∷ m2.3 ∷ m3.3 ∷ []
-    ≡ mix_columns (a0 ∷ a1 ∷ a2 ∷ a3 ∷ b0 ∷ b1 ∷ b2 ∷ b3 ∷ c0 ∷ c1 ∷ c2 ∷ c3 ∷ d0 ∷ d1 ∷ d2 ∷ d3 ∷ [])
-unfolding mix_columns
-columns_mixed m0 m1 m2 m3 a0 a1 a2 a3 b0 b1 b2 b3 c0 c1 c2 c3 d0 d1 d2 d3 e0 e1 e2 e3 = rw (e0, e1, e2, e3) refl
-
--- the same of diagonals, each with the word of row b by whose column it is counted
-pub diagonals_mixed : (m0 m1 m2 m3 : ℕ × ℕ × ℕ × ℕ) (a0 a1 a2 a3 b0 b1 b2 b3 c0 c1 c2 c3 d0 d1 d2 d3 : ℕ)
-    → m0 ≡ gb a3 b0 c1 d2 → m1 ≡ gb a0 b1 c2 d3 → m2 ≡ gb a1 b2 c3 d0 → m3 ≡ gb a2 b3 c0 d1
-    → m1.0 ∷ m2.0 ∷ m3.0 ∷ m0.0 ∷ m0.1 ∷ m1.1 ∷ m2.1 ∷ m3.1 ∷ m3.2 ∷ m0.2 ∷ m1.2 ∷ m2.2 ∷ m2.3 ∷ m3.3 ∷ m0.3 ∷ m1.3 ∷ []
-    ≡ mix_diagonals (a0 ∷ a1 ∷ a2 ∷ a3 ∷ b0 ∷ b1 ∷ b2 ∷ b3 ∷ c0 ∷ c1 ∷ c2 ∷ c3 ∷ d0 ∷ d1 ∷ d2 ∷ d3 ∷ [])
-unfolding mix_diagonals
-diagonals_mixed m0 m1 m2 m3 a0 a1 a2 a3 b0 b1 b2 b3 c0 c1 c2 c3 d0 d1 d2 d3 e0 e1 e2 e3 = rw (e0, e1, e2, e3) refl
 
 -- a word of sixteen
 pub word_at : (f : ℕ → ℕ) (k : ℕ) → k < 16 → slice_index (map f (range_with_len 0 16)) k ≡ f k

@@ -13,8 +13,8 @@ pub name_chars : (s : List ℕ) → is_name s ≡ true → list_all is_name_char
 name_chars s h = (and_parts _ (list_all is_name_char s) h).1
 
 -- a name is text
-pub IsUtf8-name : (s : List ℕ) → is_name s ≡ true → IsUtf8 s
-IsUtf8-name s h = IsUtf8-from_ascii s (IsAscii-from_all s (All-from_recursion (λ c. c < 128) s
+pub name_utf8 : (s : List ℕ) → is_name s ≡ true → IsUtf8 s
+name_utf8 s h = IsUtf8-from_ascii s (IsAscii-from_all s (All-from_recursion (λ c. c < 128) s
     (tests_give is_name_char (λ c. c < 128) (λ c small. grind (arith, nat_tests)) s (name_chars s h))))
 
 -- a character that doesn't pass is in no list of those that do

@@ -1,6 +1,10 @@
 -- Which number a decimal is of.
 use Rattle.argon2_base.proofs.Imports.{◌≡◌, ℕ, ◌^◌, ◌<◌, List, Some, None, refl, arith, lt-ltb, nat_tests, bytes_eq-Decides, decimal_is_IsNumeral, decimal, number_of}
 use Rattle.std.specs.Str.Parse.{digits_value}
+use Rattle.std.proofs.lemmas.Fmt.{decimal_digit, decimal_step, length-decimal-le}
+
+-- how a decimal grows
+pub ruleset decimal_steps = (decimal_digit, decimal_step, length-decimal-le)
 
 -- a decimal is of its number
 pub number_again : (text : List ℕ) (n : ℕ) → n < 2 ^ 32 → text ≡ decimal n → number_of text ≡ Some n

@@ -4,7 +4,7 @@ use Rattle.argon2_base.proofs.Imports.{All-from_recursion, IsUtf8-append, IsUtf8
 use Rattle.argon2_base.proofs.Imports.{is_param, item, list_field, params_text, phc_text, version_text, is_value, is_value_char, strict_base64}
 use Rattle.std.proofs.Common.{append-nil}
 use Rattle.argon2_base.proofs.phc_lemmas.Base64Lemmas.{IsUtf8-strict_base64}
-use Rattle.argon2_base.proofs.phc_lemmas.Characters.{IsUtf8-name, tests_give}
+use Rattle.argon2_base.proofs.phc_lemmas.Characters.{name_utf8, tests_give}
 use Rattle.argon2_base.proofs.phc_lemmas.ParamsTextLemmas.{all_params, param_name, param_value}
 
 -- text behind an ASCII character is text
@@ -19,7 +19,7 @@ value_utf8 s h = IsUtf8-from_ascii s (IsAscii-from_all s (All-from_recursion (λ
 
 -- an item is text
 item_utf8 : (p : Pair) → is_param p ≡ true → IsUtf8 (item p)
-item_utf8 p h = IsUtf8-append p.0 _ (IsUtf8-name p.0 (param_name p h))
+item_utf8 p h = IsUtf8-append p.0 _ (name_utf8 p.0 (param_name p h))
     (behind tt (value_utf8 p.1 (param_value p h)))
 
 -- items joined by `,` are text
@@ -45,7 +45,7 @@ list_utf8 (p ∷ ps) fs h k = behind tt (IsUtf8-append (params_text (p ∷ ps)) 
 
 -- a PHC text is UTF-8
 pub text_is_utf8 : (v : Phc) → IsPhc v → IsUtf8 (phc_text v)
-text_is_utf8 v h = behind tt (IsUtf8-append v.algorithm _ (IsUtf8-name v.algorithm h.algorithm)
+text_is_utf8 v h = behind tt (IsUtf8-append v.algorithm _ (name_utf8 v.algorithm h.algorithm)
     (field_utf8 version_text v.version _ (λ n e. let small : n < 2 ^ 32 = rw e at h.version in
     behind tt (behind tt (IsUtf8-from_ascii _ (IsAscii-decimal n (omega arith)))))
     (list_utf8 v.params _ (all_params v.params h.params)

@@ -29,6 +29,7 @@ pub(crate) fn compress(h: &mut [u64; 8], block: &[u8], t: u128, last: bool)
 
 // The words of a block, low byte first.
 #[inline(always)]
+#[tactic(auto, using(std::proofs::lemmas::List::take_all), unfolding(crate::specs::Blake2b::words))]
 fn words(block: &[u8]) -> [u64; 16]
     requires { length block.now ≡ 128 }
     ensures { result ≡ words block.now }

@@ -10,6 +10,7 @@ use std::simd::{u64x8, u64x16};
 
 // u + v + 2 * low32(u) * low32(v) in each lane.
 #[inline(always)]
+#[tactic(auto, using(crate::proofs::block_lemmas::LaneLemmas::lane_steps), unfolding(crate::specs::Block::add_mul))]
 fn add_mul(a: u64x16, b: u64x16) -> u64x16
     ensures { (j : ℕ) → j < 16 → slice_index result j
         ≡ add_mul (slice_index a j) (slice_index b j) }
@@ -21,6 +22,7 @@ fn add_mul(a: u64x16, b: u64x16) -> u64x16
 
 // (a xor b) >>> k in each lane.
 #[inline(always)]
+#[tactic(auto, using(crate::proofs::block_lemmas::LaneLemmas::lane_steps), unfolding(crate::specs::Block::xor_rotate))]
 fn xor_rotate(a: u64x16, b: u64x16, k: u64) -> u64x16
     requires { (0 < k) × (k < 64) }
     ensures { (j : ℕ) → j < 16 → slice_index result j
@@ -134,7 +136,6 @@ fn perm_pairs(v: [u64x16; 4]) -> [u64x16; 4]
 
 // The second four lanes of each half of a and the first four of each half of b change places.
 #[inline(always)]
-#[tactic(auto, using(crate::proofs::block_lemmas::LaneLemmas::lane_steps))]
 fn exchange_fours(a: u64x16, b: u64x16) -> (u64x16, u64x16)
     ensures left { result.0 ≡ exchanged_left 16 4 a b }
     ensures right { result.1 ≡ exchanged_right 16 4 a b }
@@ -152,7 +153,6 @@ fn exchange_fours(a: u64x16, b: u64x16) -> (u64x16, u64x16)
 
 // The second half of a and the first half of b change places.
 #[inline(always)]
-#[tactic(auto, using(crate::proofs::block_lemmas::LaneLemmas::lane_steps))]
 fn exchange_halves(a: u64x16, b: u64x16) -> (u64x16, u64x16)
     ensures left { result.0 ≡ exchanged_left 16 8 a b }
     ensures right { result.1 ≡ exchanged_right 16 8 a b }

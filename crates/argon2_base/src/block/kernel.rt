@@ -1,5 +1,6 @@
 //! The mixing of two blocks over sixteen vectors of eight words: lane i of vector k is word k of row i,
 //! and then word k of column i, so that P goes on eight rows and on eight columns at once.
+#![tactic(auto, using(crate::proofs::block_lemmas::LaneLemmas::lane_steps))]
 
 ghost use Rattle.std.specs.Prelude.{◌≡◌, ℕ, ◌+◌, ◌*◌, ◌/◌, ◌%◌, ◌<◌, ◌≤◌, length, slice_index, bit_xor, ◌==◌, if◌then◌else◌};
 ghost use Rattle.argon2_base.specs.Block.{gb, mixed, perm, row, xor_blocks};
@@ -58,6 +59,7 @@ fn gb_twice(v: [u64x8; 8]) -> [u64x8; 8]
 
 // P in each lane.
 #[inline(always)]
+#[tactic(auto, unfolding(crate::specs::Block::perm, crate::specs::Block::mix_columns, crate::specs::Block::mix_diagonals))]
 fn perm(v: [u64x8; 16]) -> [u64x8; 16]
     ensures { (n : ℕ) → n < 8 → lane n result ≡ perm (lane n v) }
 {
@@ -90,7 +92,6 @@ fn perm(v: [u64x8; 16]) -> [u64x8; 16]
 
 // The lanes of two vectors in turn.
 #[inline(always)]
-#[tactic(auto, using(crate::proofs::block_lemmas::LaneLemmas::lane_steps))]
 fn interleave(a: u64x8, b: u64x8) -> (u64x8, u64x8)
     ensures left { (j : ℕ) → j < 8 → slice_index result.0 j
         ≡ slice_index (if j % 2 == 0 then a else b) (j / 2) }
@@ -102,7 +103,6 @@ fn interleave(a: u64x8, b: u64x8) -> (u64x8, u64x8)
 
 // The odd lanes of a and the even lanes of b change places.
 #[inline(always)]
-#[tactic(auto, using(crate::proofs::block_lemmas::LaneLemmas::lane_steps))]
 fn exchange_ones(a: u64x8, b: u64x8) -> (u64x8, u64x8)
     ensures left { result.0 ≡ exchanged_left 8 1 a b }
     ensures right { result.1 ≡ exchanged_right 8 1 a b }
@@ -114,7 +114,6 @@ fn exchange_ones(a: u64x8, b: u64x8) -> (u64x8, u64x8)
 
 // The second pair of each half of a and the first pair of each half of b change places.
 #[inline(always)]
-#[tactic(auto, using(crate::proofs::block_lemmas::LaneLemmas::lane_steps))]
 fn exchange_twos(a: u64x8, b: u64x8) -> (u64x8, u64x8)
     ensures left { result.0 ≡ exchanged_left 8 2 a b }
     ensures right { result.1 ≡ exchanged_right 8 2 a b }
@@ -126,7 +125,6 @@ fn exchange_twos(a: u64x8, b: u64x8) -> (u64x8, u64x8)
 
 // The second half of a and the first half of b change places.
 #[inline(always)]
-#[tactic(auto, using(crate::proofs::block_lemmas::LaneLemmas::lane_steps))]
 fn exchange_fours(a: u64x8, b: u64x8) -> (u64x8, u64x8)
     ensures left { result.0 ≡ exchanged_left 8 4 a b }
     ensures right { result.1 ≡ exchanged_right 8 4 a b }
@@ -168,6 +166,7 @@ pub(super) fn load(words: &[u64], at: usize) -> u64x8
 
 // Eight words of the exclusive or of two blocks, from a place on.
 #[inline(always)]
+#[tactic(auto, using(crate::proofs::block_lemmas::LaneLemmas::lane_steps), unfolding(crate::specs::Block::xor_blocks))]
 fn load_xor(x: &[u64; 128], y: &[u64; 128], at: usize) -> u64x8
     requires { at + 8 ≤ 128 }
     ensures { (k : ℕ) → k < 8 → slice_index result k
@@ -178,7 +177,6 @@ fn load_xor(x: &[u64; 128], y: &[u64; 128], at: usize) -> u64x8
 
 // Writes the exclusive or of two vectors from a place on.
 #[inline(always)]
-#[tactic(auto, using(crate::proofs::block_lemmas::LaneLemmas::lane_steps))]
 pub(super) fn store_xor(words: &mut [u64], at: usize, v: u64x8, r: u64x8)
     requires { at + 8 ≤ length words.old }
     ensures here { (k : ℕ) → k < 8 → slice_index words.new (at + k)
@@ -280,6 +278,7 @@ fn words(columns: &[u64x8; 16], r: &[u64x8; 16]) -> [u64; 128]
 
 /// The exclusive or, word by word.
 #[inline(always)]
+#[tactic(auto, using(crate::proofs::block_lemmas::MixingLemmas::xored_words))]
 pub fn xor_into(x: &mut [u64; 128], y: &[u64; 128])
     ensures { x.new ≡ xor_blocks x.old y.now }
 {

@@ -81,6 +81,7 @@ impl Ident {
     }
 
     /// Its text.
+    #[tactic(auto, using(crate::proofs::phc_lemmas::Characters::name_utf8))]
     pub fn as_str(&self) -> &str
         ensures value { result.now ≡ ident_text self.now }
         ensures name { IsTrue (is_name (ident_text self.now)) }

@@ -1,4 +1,5 @@
 //! Parameter lists.
+#![tactic(auto, using(crate::proofs::phc_lemmas::ListSteps::list_steps))]
 
 ghost use Rattle.std.specs.Prelude.{◌≡◌, ◌↔◌, ◌<◌, ◌≤◌, ◌++◌, ◌∷◌, ◌&&◌, [], ℕ, List, false, Some, Ok, is_ok, IfOk, IfErr, IfSome, OnOk, OnErr, MatchResult, IsTrue, length, nat_le};
 ghost use Rattle.std.specs.Fmt.{decimal};

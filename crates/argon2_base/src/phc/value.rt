@@ -44,6 +44,7 @@ impl<'a> Value<'a> {
 }
 
 // The decimal of a number.
+#[tactic(auto, using(crate::proofs::phc_lemmas::DecimalLemmas::decimal_steps))]
 pub(super) fn decimal_text(n: u32) -> ArrayString<10>
     ensures { result.bytes ≡ decimal n }
 {

@@ -1,19 +1,17 @@
-use Rattle.argon2_base.proofs.Imports.{◌∙◌, ap₂, [], ◌∷◌, exchanged_left, exchanged_right, fours, vector_words}
-use Rattle.argon2_base.proofs.block_lemmas.ChainLemmas.{fours_of_transposed, vectors_of_transposed}
+use Rattle.argon2_base.proofs.Imports.{◌≡◌, ◌∙◌, [], ◌∷◌, ap, refl, fours, vector_words}
+use Rattle.argon2_base.proofs.block_lemmas.ChainLemmas.{transposed, fours_of_transposed, vectors_of_transposed}
 use Rattle.argon2_base.proofs.block.chains.transpose.Goals as goal
 
 pub returns : goal.returns
 returns c =
     let x = c.args.x in
-    let a0 = c.exchange_fours.ensures.left in
-    let a1 = c.exchange_fours.ensures.right in
-    let a2 = c.exchange_fours-2.ensures.left in
-    let a3 = c.exchange_fours-2.ensures.right in
-    let b0 = c.exchange_halves.ensures.left ∙ ap₂ (exchanged_left 16 8) a0 a2 in
-    let b1 = c.exchange_halves-2.ensures.left ∙ ap₂ (exchanged_left 16 8) a1 a3 in
-    let b2 = c.exchange_halves.ensures.right ∙ ap₂ (exchanged_right 16 8) a0 a2 in
-    let b3 = c.exchange_halves-2.ensures.right ∙ ap₂ (exchanged_right 16 8) a1 a3 in
+    let low = c.exchange_fours.ensures in
+    let high = c.exchange_fours-2.ensures in
+    let even = c.exchange_halves.ensures in
+    let odd = c.exchange_halves-2.ensures in
+    let whole : c.exchange_halves.result.0 ∷ c.exchange_halves-2.result.0 ∷ c.exchange_halves.result.1 ∷ c.exchange_halves-2.result.1 ∷ []
+    ≡ transposed x = rw (even.left, even.right, odd.left, odd.right) (rw (low.left, low.right, high.left, high.right) refl) in
     record {
-      to_fours = λ i h. (λ p. fours i (b0 p ∷ b1 p ∷ b2 p ∷ b3 p ∷ [])) ∙ fours_of_transposed x i h;
-      to_vectors = λ i h. (λ p. vector_words i (b0 p ∷ b1 p ∷ b2 p ∷ b3 p ∷ [])) ∙ vectors_of_transposed x i h;
+      to_fours = λ i h. ap (fours i) whole ∙ fours_of_transposed x i h;
+      to_vectors = λ i h. ap (vector_words i) whole ∙ vectors_of_transposed x i h;
     }

@@ -1,18 +1,5 @@
-use Rattle.argon2_base.proofs.Imports.{ap, arith, below_more, slice_index_or, nat_eq, same_from_decides, Decides-eqb, same_number_lists, bytes_eq-Decides, bytes_eq}
-use Rattle.argon2_base.proofs.phc_lemmas.Compared.{no_difference, difference_none}
+use Rattle.argon2_base.proofs.Imports.{arith, nat_eq, same_from_decides, Decides-eqb, same_number_lists, bytes_eq-Decides, bytes_eq}
 use Rattle.argon2_base.proofs.phc.compare.are_equal.Goals as goal
-
-pub loop-i-preserved : goal.loop-i-preserved
-loop-i-preserved c =
-    let x = slice_index_or c.args.a.now c.loop-i.i 0 in
-    let y = slice_index_or c.args.b.now c.loop-i.i 0 in
-    record {
-      same = λ none.
-          let before = no_difference c.loop-i.difference x y none in
-          below_more _ _ (c.loop-i.invariant.same before.0) before.1;
-      none = λ e. difference_none c.loop-i.difference x y (c.loop-i.invariant.none e)
-          (ap (λ xs. slice_index_or xs c.loop-i.i 0) e);
-    }
 
 pub returns : goal.returns
 returns c =

@@ -1,11 +1,8 @@
 use Rattle.argon2_base.proofs.Imports.{◌∙◌, ap, items_of}
-use Rattle.argon2_base.proofs.phc_lemmas.Separators.{slice_split-first, slice_split-lacks}
+use Rattle.argon2_base.proofs.phc_lemmas.Separators.{slice_split-first}
 use Rattle.argon2_base.proofs.phc.list.first_item.Goals as goal
 
 pub returns-in-Some-clause-items : goal.returns-in-Some-clause-items
 returns-in-Some-clause-items c =
     let parts = c.in-Some.ensures in
     ap items_of parts.0 ∙ slice_split-first 44 c.in-Some.item.now c.in-Some.rest.now parts.1
-
-pub returns-in-None-clause-items : goal.returns-in-None-clause-items
-returns-in-None-clause-items c = slice_split-lacks 44 c.args.text.now c.in-None.ensures

@@ -1,5 +1,0 @@
-use Rattle.argon2_base.proofs.block_lemmas.LaneLemmas.{shifts_rotate}
-use Rattle.argon2_base.proofs.block.chains.xor_rotate.Goals as goal
-
-pub returns : goal.returns
-returns c = shifts_rotate 16 c.args.k c.requires.0 c.requires.1 c.args.a c.args.b c.fits-a.0 c.fits-b.0
