@@ -15,6 +15,7 @@ use crate::error::{Error, Result};
 /// # Errors
 /// [`Error::OutputTooShort`] if `out` is empty, [`Error::OutputTooLong`] if it has more bytes than
 /// that; `out` is unchanged then.
+#[tactic(auto, unfolding(crate::specs::LongHash::chain, crate::specs::LongHash::long_hash))]
 pub fn blake2b_long(inputs: &[&[u8]], out: &mut [u8]) -> Result<()>
     requires { length (joined inputs.now) + 4 < 2 ^ 128 }
     ensures answer { result ≡ long_answer (length out.old) }
@@ -56,6 +57,7 @@ fn hasher_of(len: u32, inputs: &[&[u8]]) -> Blake2b
 }
 
 // Writes an output of more than 64 bytes, whose V(1) is `start`.
+#[tactic(auto, using(crate::proofs::blake2b_lemmas::Pieces::piece_steps))]
 fn write_pieces(start: &[u8; 64], out: &mut [u8])
     requires { 64 < length out.old }
     ensures { (first : List ℕ) → start.now ≡ chain first 1

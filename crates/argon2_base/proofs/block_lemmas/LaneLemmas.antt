@@ -16,27 +16,14 @@ zip2_at f a b j in_a in_b = get_or-zip2 f a b j 0 0 0 in_a in_b
 pub ruleset lane_steps = (get_or_append_left, get_or-append_right, zip2_at, length-zip2, get_or-replicate,
     length-replicate, and_numeral, get_or-put_chunk_above, get_or-put_chunk_at, get_or-put_chunk_below)
 
--- what is true of 0 and 1 is true of each number below 2
-pub below_two : (P : ℕ → Type 0) → P 0 → P 1 → (e : ℕ) → e < 2 → P e
-below_two P p0 p1 zero h = p0
-below_two P p0 p1 (suc zero) h = p1
-below_two P p0 p1 (suc (suc n)) h = absurd (omega arith)
-
 -- what is true of each of eight lanes
 pub below_eight : (P : ℕ → Type 0) → P 0 → P 1 → P 2 → P 3 → P 4 → P 5 → P 6 → P 7 → (j : ℕ) → j < 8 → P j
-below_eight P p0 p1 p2 p3 p4 p5 p6 p7 j h =
-    subst P (omega arith) (below_two (λ a. (b : ℕ) → b < 2 → (c : ℕ) → c < 2 → P (4 * a + 2 * b + c))
-    (below_two _ (below_two _ p0 p1) (below_two _ p2 p3)) (below_two _ (below_two _ p4 p5) (below_two _ p6 p7))
-    (j / 4) (omega arith) (j / 2 % 2) (omega arith) (j % 2) (omega arith))
+below_eight P p0 p1 p2 p3 p4 p5 p6 p7 j h = grind arith
 
 -- what is true of each of sixteen words
 pub below_sixteen : (P : ℕ → Type 0) → P 0 → P 1 → P 2 → P 3 → P 4 → P 5 → P 6 → P 7
     → P 8 → P 9 → P 10 → P 11 → P 12 → P 13 → P 14 → P 15 → (k : ℕ) → k < 16 → P k
-below_sixteen P a0 a1 a2 a3 a4 a5 a6 a7 b0 b1 b2 b3 b4 b5 b6 b7 k h =
-    subst P (omega arith) (below_eight (λ i. (e : ℕ) → e < 2 → P (2 * i + e))
-    (below_two _ a0 a1) (below_two _ a2 a3) (below_two _ a4 a5) (below_two _ a6 a7)
-    (below_two _ b0 b1) (below_two _ b2 b3) (below_two _ b4 b5) (below_two _ b6 b7)
-    (k / 2) (omega arith) (k % 2) (omega arith))
+below_sixteen P a0 a1 a2 a3 a4 a5 a6 a7 b0 b1 b2 b3 b4 b5 b6 b7 k h = grind arith
 
 -- a word of sixteen
 pub word_at : (f : ℕ → ℕ) (k : ℕ) → k < 16 → slice_index (map f (range_with_len 0 16)) k ≡ f k
@@ -44,9 +31,7 @@ word_at f k h = get_or-map-range_with_len f 0 16 k k 0 h (omega arith)
 
 -- sixteen words, given by number
 pub words_are : (f g : ℕ → ℕ) → ((k : ℕ) → k < 16 → f k ≡ g k) → map f (range_with_len 0 16) ≡ map g (range_with_len 0 16)
-words_are f g h =
-    ext_get_or 0 (map f (range_with_len 0 16)) (map g (range_with_len 0 16)) refl (λ k below.
-    word_at f k below ∙ h k below ∙ sym (word_at g k below))
+words_are f g h = grind arith
 
 -- the vector of a number
 abbrev pub row_at : List (List ℕ) → ℕ → List ℕ

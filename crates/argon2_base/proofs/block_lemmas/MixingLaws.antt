@@ -1,5 +1,5 @@
 -- Laws of the mixing of two blocks.
-use Rattle.argon2_base.proofs.Imports.{◌≡◌, ℕ, List, [], ◌∷◌, refl, ap, ap₂, xor_comm, by_columns, by_rows, mixed, xor_blocks}
+use Rattle.argon2_base.proofs.Imports.{arith, ◌≡◌, ℕ, List, [], ◌∷◌, refl, ap₂, xor_comm, mixed, xor_blocks}
 
 -- the exclusive or of two blocks does not mind their order
 pub xor_blocks-comm : (x y : List ℕ) → xor_blocks x y ≡ xor_blocks y x
@@ -12,4 +12,4 @@ xor_blocks-comm (a ∷ x) (b ∷ y) = ap₂ (λ h t. h ∷ t) (xor_comm a b) (xo
 -- the mixing of two blocks does not mind their order
 pub mixed-comm : (x y : List ℕ) → mixed x y ≡ mixed y x
 unfolding mixed
-mixed-comm x y = ap (λ r. xor_blocks (by_columns (by_rows r)) r) (xor_blocks-comm x y)
+mixed-comm x y = grind (arith, xor_blocks-comm)

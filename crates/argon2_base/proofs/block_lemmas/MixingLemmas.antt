@@ -3,15 +3,11 @@ use Rattle.argon2_base.proofs.Imports.{◌≡◌, ℕ, Bool, true, false, ◌<�
 use Rattle.argon2_base.proofs.Imports.{refl, sym, ap, ap₂, ◌∙◌, zero-add, cases_lt, ext_get_or, get_or-map-range_with_len, length-map-range_with_len, get_or-zip2, length-zip2}
 use Rattle.argon2_base.proofs.Imports.{range_with_len, by_columns, by_rows, column, perm, row, xor_blocks, column_lanes, half_word, lane, lane_word, pairs, vector_words, written}
 use Rattle.std.proofs.Common.{bit_xor}
-use Rattle.argon2_base.proofs.block_lemmas.LaneLemmas.{below_two, word_at, words_are}
+use Rattle.argon2_base.proofs.block_lemmas.LaneLemmas.{word_at, words_are}
 
 -- lane q of the vector of an even or an odd number, of two neighbours
 abbrev one_of : List (List ℕ) → ℕ → ℕ → ℕ → ℕ
 one_of x i e q = slice_index (if e == 0 then slice_index_or x (2 * i) [] else slice_index_or x (2 * i + 1) []) q
-
--- the word is the lane of the vector of that number
-one_of-lane_word : (x : List (List ℕ)) (i q e : ℕ) → e < 2 → one_of x i e q ≡ lane_word x (2 * i + e) q
-one_of-lane_word x i q = below_two _ (ap (λ k. lane_word x k q) (omega arith)) refl
 
 -- word w of the columns, xored with the word of r
 abbrev Stored : List (List ℕ) → List ℕ → List ℕ → ℕ → Type 0
@@ -21,9 +17,7 @@ Stored x r out w = slice_index out w ≡ bit_xor (lane_word x (2 * (w / 16) + w 
 word_stored : (x : List (List ℕ)) (r out : List ℕ) (i w place e q : ℕ)
     → slice_index out place ≡ bit_xor (one_of x i e q) (slice_index r place) → e < 2 → place ≡ w
     → 2 * i + e ≡ 2 * (w / 16) + w % 2 → q ≡ w % 16 / 2 → Stored x r out w
-word_stored x r out i w place e q stored below here vector lane_of =
-    rw here at stored
-    ∙ ap (λ a. bit_xor a (slice_index r w)) (one_of-lane_word x i q e below ∙ ap₂ (lane_word x) vector lane_of)
+word_stored x r out i w place e q stored below here vector lane_of = grind arith
 
 -- the words of a row that is stored by halves
 pub row_stored : (x : List (List ℕ)) (r out : List ℕ) (i : ℕ)
@@ -93,9 +87,7 @@ xored_words x y out long_x long_y long_out xored =
 stored_mixed : (r out : List ℕ) → length r ≡ 128 → length out ≡ 128
     → ((w : ℕ) → w < 128 → slice_index out w ≡ bit_xor (mixed_word r w) (slice_index r w))
     → out ≡ xor_blocks (by_columns (by_rows r)) r
-stored_mixed r out long_r long_out stored =
-    xored_words (by_columns (by_rows r)) r out (length-by_columns (by_rows r)) long_r long_out (λ w h.
-    stored w h ∙ ap (λ a. bit_xor a (slice_index r w)) (sym (by_columns_word (by_rows r) w h)))
+stored_mixed r out long_r long_out stored = grind (arith, xored_words, length-by_columns, by_columns_word)
 
 -- and if they are written over a block, so is G, or its exclusive or with the block
 pub mixed_written : (xors : Bool) (r old out : List ℕ) → length r ≡ 128 → length old ≡ 128 → length out ≡ 128

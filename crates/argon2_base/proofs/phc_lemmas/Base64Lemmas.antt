@@ -1,8 +1,8 @@
 -- The engine without padding reads and writes strict Base64, and nothing else.
-use Rattle.argon2_base.proofs.Imports.{◌≡◌, ◌≢◌, ℕ, zero, suc, ◌+◌, ◌*◌, ◌/◌, ◌<◌, ◌≤◌, Bool, true, ◌&&◌, nat_le, nat_lt, List, [], ◌∷◌, ◌++◌, length, take, drop, Ok, Err, refl, sym, ◌∙◌}
-use Rattle.argon2_base.proofs.Imports.{ap, arith, Result, Option, Some, None, and_parts, le-leb, leb-true, lt-ltb, ltb-true, IsUtf8-from_ascii, list_all, IsUtf8, standard_no_pad}
-use Rattle.argon2_base.proofs.Imports.{encode_symbols, decode_of, decoded_of, encode_of, encoded_size_of, DecodeError, alphabet, strict_base64, short_bytes, IsBytes, base64_length}
-use Rattle.argon2_base.proofs.Imports.{IsBase64Cause}
+use Rattle.argon2_base.proofs.Imports.{common_steps, ◌≡◌, ◌≢◌, ℕ, zero, suc, ◌+◌, ◌*◌, ◌/◌, ◌<◌, ◌≤◌, Bool, true, ◌&&◌, nat_le, nat_lt, List, [], ◌∷◌, ◌++◌, length, take, drop, Ok, Err}
+use Rattle.argon2_base.proofs.Imports.{refl, sym, ◌∙◌, ap, arith, Result, Option, Some, None, and_parts, le-leb, leb-true, lt-ltb, ltb-true, IsUtf8-from_ascii, list_all, IsUtf8}
+use Rattle.argon2_base.proofs.Imports.{standard_no_pad, encode_symbols, decode_of, decoded_of, encode_of, encoded_size_of, DecodeError, alphabet, strict_base64, short_bytes, IsBytes}
+use Rattle.argon2_base.proofs.Imports.{base64_length, IsBase64Cause}
 use Rattle.std.proofs.lemmas.List.{append-nil}
 use Rattle.base64.specs.declared.encode.EncodeSliceError.{EncodeSliceError}
 use Rattle.base64.specs.declared.encode.EncodeSliceError.TheVariants.{OutputSliceTooSmall}
@@ -64,8 +64,7 @@ short_bytes_found most s b bytes h =
 pub short_bytes_again : (most : ℕ) (s b : List ℕ) → IsBytes b → length b ≤ most → s ≡ strict_base64 b
     → short_bytes most s ≡ Some b
 unfolding decoded_of
-short_bytes_again most s b bytes short is =
-    rw (is, decode_of-strict_base64 b bytes, le-leb (length b) most short, bytes_pass b bytes) refl
+short_bytes_again most s b bytes short is = grind (arith, decode_of-strict_base64, le-leb, bytes_pass)
 
 none_unless : (o : Option (List ℕ)) → ((b : List ℕ) → o ≡ Some b → ⊥) → o ≡ None
 none_unless o h = grind arith
@@ -79,9 +78,7 @@ refused_text most s InvalidEncoding refused b bytes fits is = refused.1 b bytes 
 -- `short_bytes` finds no bytes of a text that is refused
 pub short_bytes_refused : (most : ℕ) (s : List ℕ) (cause : B64Error) → IsBytes s
     → IsBase64Cause (base64_length most) s cause → short_bytes most s ≡ None
-short_bytes_refused most s cause bytes refused = none_unless (short_bytes most s) (λ b is.
-    let found = short_bytes_found most s b bytes is in
-    refused_text most s cause refused b found.0 found.1 found.2)
+short_bytes_refused most s cause bytes refused = grind (arith, none_unless, short_bytes_found, refused_text)
 
 -- two byte lists with one text are one
 pub strict_base64_unique : (s b d : List ℕ) → IsBytes b → s ≡ strict_base64 b → decode_of standard_no_pad s ≡ Ok d → b ≡ d
@@ -101,10 +98,7 @@ pub strict_base64_written : (b old new : List ℕ) (len : ℕ) → length new �
     → (length old < encoded_size_of standard_no_pad (length b) → written len ≡ Err OutputSliceTooSmall)
     → new ≡ encode_of standard_no_pad b ++ drop (encoded_size_of standard_no_pad (length b)) old
     → take len new ≡ strict_base64 b
-strict_base64_written b old new len same fits small put =
-    encoded_prefix (encode_of standard_no_pad b) old new (encoded_size_of standard_no_pad (length b)) len (Ok len)
-    OutputSliceTooSmall same fits small refl put
-    ∙ encode_of-strict b
+strict_base64_written b old new len same fits small put = grind (arith, common_steps, encoded_prefix, encode_of-strict)
 
 -- a strict text is text
 pub IsUtf8-strict_base64 : (b : List ℕ) → IsUtf8 (strict_base64 b)

@@ -1,8 +1,8 @@
 -- Byte lists with zeros behind their bytes: what copying and decoding into zeros leaves.
-use Rattle.argon2_base.proofs.Imports.{◌≡◌, ℕ, ◌/◌, ◌-◌, ◌≤◌, Bool, false, List, ◌++◌, length, take, drop, replicate, if◌then◌else◌, Option, Result, Ok, Err, refl, sym, ap, ◌∙◌, arith}
-use Rattle.argon2_base.proofs.Imports.{nat_tests, le-ltb, drop-replicate, take_at, drop-append-drop, standard_no_pad, decode_of, decode_slice_of, decoded_bytes_of, DecodeError, IsBytes}
+use Rattle.argon2_base.proofs.Imports.{common_steps, ◌≡◌, ℕ, ◌-◌, ◌≤◌, Bool, false, List, ◌++◌, length, take, drop, replicate, if◌then◌else◌, Option, Result, Ok, Err, refl, sym, ap, ◌∙◌}
+use Rattle.argon2_base.proofs.Imports.{arith, nat_tests, le-ltb, drop-replicate, take_at, drop-append-drop, standard_no_pad, decode_slice_of, decoded_bytes_of, DecodeError, IsBytes}
 use Rattle.argon2_base.proofs.Imports.{strict_base64, base64_length}
-use Rattle.base64.specs.Decode.{bytes_fit, decode_outcome, groups_before_last, or_else, or_error}
+use Rattle.base64.specs.Decode.{bytes_fit, decode_outcome, or_else, or_error}
 use Rattle.base64.specs.declared.decode.DecodeSliceError.{DecodeSliceError}
 use Rattle.base64.specs.declared.decode.DecodeSliceError.TheVariants.{OutputSliceTooSmall}
 use Rattle.argon2_base.proofs.phc_lemmas.Base64Lemmas.{decode_of-strict_base64, length-strict_base64, strict_base64_decoded}
@@ -56,7 +56,4 @@ pub decode_slice_err : (s t b : List ℕ) (room wide : ℕ) (f : DecodeSliceErro
     → IsBytes b → s ≡ strict_base64 b → length s ≤ base64_length room
     → Err f ≡ decode_slice_of standard_no_pad t wide → ⊥
 decode_slice_err s t b room wide f same length_is bytes is short err' =
-    let err : decode_slice_of standard_no_pad s room ≡ Err f = rw (same, length_is) at (sym err') in
-    let ok : decode_of standard_no_pad s ≡ Ok b = rw is (decode_of-strict_base64 b bytes) in
-    let fits : length b ≤ room = omega (arith, ap length is, length-strict_base64 b) in
-    answer_err _ _ _ _ b room f ok fits (le-ltb (room / 3) (groups_before_last (length s)) (omega arith)) err
+    grind (arith, common_steps, decode_of-strict_base64, length-strict_base64, answer_err, le-ltb)

@@ -1,5 +1,5 @@
 -- What follows from a test of each character.
-use Rattle.argon2_base.proofs.Imports.{◌≡◌, ℕ, ◌<◌, Bool, true, false, List, [], ◌∷◌, arith, ◌==◌, nat_tests, and_parts, list_all, AllByRecursion, IsUtf8, All-from_recursion}
+use Rattle.argon2_base.proofs.Imports.{common_steps, ◌≡◌, ℕ, Bool, true, false, List, [], ◌∷◌, arith, ◌==◌, nat_tests, and_parts, list_all, AllByRecursion, IsUtf8, All-from_recursion}
 use Rattle.argon2_base.proofs.Imports.{IsUtf8-from_ascii, IsAscii-from_all, is_name_char, is_name}
 
 -- each element is what passing elements are
@@ -14,10 +14,9 @@ name_chars s h = (and_parts _ (list_all is_name_char s) h).1
 
 -- a name is text
 pub name_utf8 : (s : List ℕ) → is_name s ≡ true → IsUtf8 s
-name_utf8 s h = IsUtf8-from_ascii s (IsAscii-from_all s (All-from_recursion (λ c. c < 128) s
-    (tests_give is_name_char (λ c. c < 128) (λ c small. grind (arith, nat_tests)) s (name_chars s h))))
+name_utf8 s h = grind (arith, common_steps, IsUtf8-from_ascii, IsAscii-from_all, All-from_recursion, tests_give, nat_tests, name_chars)
 
 -- a character that doesn't pass is in no list of those that do
 pub lacks_by : (p : ℕ → Bool) (c : ℕ) → p c ≡ false → (s : List ℕ) → list_all p s ≡ true
     → AllByRecursion (λ x. (x == c) ≡ false) s
-lacks_by p c fails s h = tests_give p (λ x. (x == c) ≡ false) (λ x yes. grind (arith, nat_tests)) s h
+lacks_by p c fails s h = grind (arith, tests_give, nat_tests)

@@ -36,11 +36,7 @@ text_front (q ∷ r ∷ a) b = omega (arith, text_front (r ∷ a) b, length-appe
 
 -- the front of a list in the grammar is in the grammar
 pub params_front : (a b : List Pair) → are_params (a ++ b) ≡ true → are_params a ≡ true
-params_front a b h =
-    let distinct = distinct_front a b in
-    let no_longer = text_front a b in
-    let all = list_all-append is_param a b in
-    grind (arith, nat_tests)
+params_front a b h = grind (arith, distinct_front, text_front, list_all-append, nat_tests)
 
 -- ---- the length of a value
 

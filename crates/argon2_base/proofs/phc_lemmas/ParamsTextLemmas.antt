@@ -29,8 +29,7 @@ name_lacks c fails s h = lacks_by is_name_char c fails s (name_chars s h)
 -- an item lacks what is in no name and no value, and is no `=`
 pub item_lacks : (c : ℕ) → is_name_char c ≡ false → is_value_char c ≡ false → (61 == c) ≡ false → (p : Pair)
     → is_param p ≡ true → Lacks c (item p)
-item_lacks c a b d p h = Lacks-append c p.0 (61 ∷ p.1) (name_lacks c a p.0 (param_name p h))
-    (d, lacks_by is_value_char c b p.1 (and_parts _ (list_all is_value_char p.1) (param_value p h)).1)
+item_lacks c a b d p h = grind (arith, Lacks-append, name_lacks, param_name, lacks_by, and_parts, param_value)
 
 -- items have no `,`
 pub items_lack : (ps : List Pair) → list_all is_param ps ≡ true → AllByRecursion (Lacks 44) (map item ps)
@@ -124,27 +123,9 @@ refused_param ps p h = rw (list_all-more ps p, h, and-false) refl
 pub refused_name : (ps : List Pair) (p : Pair) → is_some (value_of p.0 ps) ≡ true → false ≡ are_params (ps ++ p ∷ [])
 refused_name ps p h = rw (are_distinct-more ps p) (grind arith)
 
--- what a list is after an item was appended, or didn't fit
-pub record Grows (text new : List ℕ) (p : Pair) : Type 0 where
-  pub good : are_params (pairs_of text ++ p ∷ []) ≡ true
-  pub view : pairs_of new ≡ pairs_of text ++ p ∷ []
-  pub spelled : new ≡ params_text (pairs_of text ++ p ∷ [])
-
--- the list after an item was appended
-pub params_grown : (text new : List ℕ) (p : Pair) → are_params (pairs_of text) ≡ true → text ≡ params_text (pairs_of text)
-    → is_param p ≡ true → is_some (value_of p.0 (pairs_of text)) ≡ false → nat_le (length (with_item text p)) 127 ≡ true
-    → new ≡ with_item text p → Grows text new p
-params_grown text new p h is param name fits e =
-    let ps : List Pair = pairs_of text in
-    let good : are_params (ps ++ p ∷ []) ≡ true = rw (are_params-more ps p h, param, ap not name, ← is) fits in
-    let whole : new ≡ params_text (ps ++ p ∷ []) = rw (e, params_text-more ps p, ← is) refl in
-    record {
-      good = good;
-      view = ap pairs_of whole ∙ pairs_again (ps ++ p ∷ []) (all_params (ps ++ p ∷ []) good);
-      spelled = whole;
-    }
-
--- a list that is too long is refused
-pub refused_long : (text : List ℕ) (p : Pair) → are_params (pairs_of text) ≡ true → text ≡ params_text (pairs_of text)
-    → nat_le (length (with_item text p)) 127 ≡ false → false ≡ are_params (pairs_of text ++ p ∷ [])
-refused_long text p h is long = rw (are_params-more (pairs_of text) p h, ← is, long, and-false) refl
+-- a text to which an item was added says one more parameter
+pub more_again : (text : List ℕ) (p : Pair) → text ≡ params_text (pairs_of text) → are_params (pairs_of text ++ p ∷ []) ≡ true
+    → (pairs_of (with_item text p) ≡ pairs_of text ++ p ∷ []) × (with_item text p ≡ params_text (pairs_of text ++ p ∷ []))
+more_again text p is good =
+    let whole : with_item text p ≡ params_text (pairs_of text ++ p ∷ []) = rw (params_text-more (pairs_of text) p, ← is) refl in
+    (ap pairs_of whole ∙ pairs_again (pairs_of text ++ p ∷ []) (all_params (pairs_of text ++ p ∷ []) good), whole)

@@ -47,13 +47,7 @@ list_field_lacks (p ∷ ps) h = (params_text_lacks (p ∷ ps) (all_params (p ∷
 
 -- no field has a `$`
 fields_lack : (v : Phc) → IsPhc v → AllByRecursion (Lacks 36) (fields v)
-fields_lack v h = (
-  name_lacks 36 refl v.algorithm h.algorithm,
-  all-append _ (field version_text v.version) _ (version_field_lacks v.version h.version)
-      (all-append _ (list_field v.params) _ (list_field_lacks v.params h.params)
-      (all-append _ (field strict_base64 v.salt) (field strict_base64 v.hash) (bytes_field_lacks 8 48 v.salt h.salt)
-      (bytes_field_lacks 4 64 v.hash h.hash))),
-)
+fields_lack v h = grind (arith, name_lacks, all-append, version_field_lacks, list_field_lacks, bytes_field_lacks)
 
 -- ---- the fields joined
 
@@ -157,8 +151,7 @@ first_only : (low high : ℕ) (f : List ℕ) (left more : List (List ℕ)) (P : 
     → (o : Option (List ℕ)) (rest : List (List ℕ)) → IfSome o (HasBytes low high) → (IsNone o → rest ≡ [])
     → left ≡ field strict_base64 o ++ rest → P o rest
 first_only low high f left more P e says None rest has none is = absurd (let g = none refl in cc)
-first_only low high f left more P e says (Some d) rest has none is =
-    subst (P (Some d)) (cc (sym e ∙ is)) (says d has (cc (sym e ∙ is)))
+first_only low high f left more P e says (Some d) rest has none is = grind arith
 
 -- bytes whose strict Base64 is the first field are read
 pub bytes_read : (low high : ℕ) (b : List ℕ) (left : List (List ℕ)) (more : Option (Bor (List ℕ)))
@@ -173,12 +166,7 @@ bytes_read low high b left more e h = record {
 -- a field that is the strict Base64 of no such bytes is refused
 pub bytes_refused : (low high : ℕ) (f : List ℕ) (left more : List (List ℕ)) → left ≡ f ∷ more
     → ((b : List ℕ) → HasBytes low high b → f ≢ strict_base64 b) → IsBytesField low high left (Err EncodingInvalid)
-bytes_refused low high f left more e h = record {
-  found = tt;
-  end = tt;
-  only = first_only low high f left more (λ _ _. ⊥) e h;
-  invalid = refl;
-}
+bytes_refused low high f left more e h = grind arith
 
 -- ---- the whole text
 

@@ -1,7 +1,7 @@
 -- A text in the grammar is UTF-8.
-use Rattle.argon2_base.proofs.Imports.{◌≡◌, ℕ, ◌<◌, ◌^◌, T, ltb, true, List, [], ◌∷◌, ◌++◌, refl, arith, lit<, Option, Some, None, list_all, IsUtf8, and_parts, nat_tests, IsAscii-decimal}
-use Rattle.argon2_base.proofs.Imports.{All-from_recursion, IsUtf8-append, IsUtf8-from_ascii, IsUtf8-nil, IsAscii-cons, IsAscii-from_all, IsAscii-nil, IsPhc, Pair, Phc, field, fields_text}
-use Rattle.argon2_base.proofs.Imports.{is_param, item, list_field, params_text, phc_text, version_text, is_value, is_value_char, strict_base64}
+use Rattle.argon2_base.proofs.Imports.{common_steps, ◌≡◌, ℕ, ◌<◌, ◌^◌, T, ltb, true, List, [], ◌∷◌, ◌++◌, refl, arith, lit<, Option, Some, None, list_all, IsUtf8, and_parts, nat_tests}
+use Rattle.argon2_base.proofs.Imports.{IsAscii-decimal, All-from_recursion, IsUtf8-append, IsUtf8-from_ascii, IsUtf8-nil, IsAscii-cons, IsAscii-from_all, IsAscii-nil, IsPhc, Pair, Phc}
+use Rattle.argon2_base.proofs.Imports.{field, fields_text, is_param, item, list_field, params_text, phc_text, version_text, is_value, strict_base64}
 use Rattle.std.proofs.Common.{append-nil}
 use Rattle.argon2_base.proofs.phc_lemmas.Base64Lemmas.{IsUtf8-strict_base64}
 use Rattle.argon2_base.proofs.phc_lemmas.Characters.{name_utf8, tests_give}
@@ -14,13 +14,11 @@ behind {c} {s} low =
 
 -- a value is text
 value_utf8 : (s : List ℕ) → is_value s ≡ true → IsUtf8 s
-value_utf8 s h = IsUtf8-from_ascii s (IsAscii-from_all s (All-from_recursion (λ c. c < 128) s
-    (tests_give is_value_char _ (λ c yes. grind (arith, nat_tests)) s (and_parts _ _ h).1)))
+value_utf8 s h = grind (arith, common_steps, IsUtf8-from_ascii, IsAscii-from_all, All-from_recursion, tests_give, nat_tests, and_parts)
 
 -- an item is text
 item_utf8 : (p : Pair) → is_param p ≡ true → IsUtf8 (item p)
-item_utf8 p h = IsUtf8-append p.0 _ (name_utf8 p.0 (param_name p h))
-    (behind tt (value_utf8 p.1 (param_value p h)))
+item_utf8 p h = grind (arith, IsUtf8-append, name_utf8, param_name, behind, value_utf8, param_value)
 
 -- items joined by `,` are text
 items_utf8 : (p : Pair) (ps : List Pair) → list_all is_param (p ∷ ps) ≡ true
