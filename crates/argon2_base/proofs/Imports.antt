@@ -1,9 +1,9 @@
 -- The words that the proofs of this crate use.
 pub use Rattle.std.proofs.Common.{All, Bool, Err, List, None, Ok, Option, Result, Some, T, [], add-one, add-zero, ap, ap₂, arith, bit_and, codes, drop, false, if◌then◌else◌, inl, inr}
-pub use Rattle.std.proofs.Common.{length, length-append, length-drop, lit<, ltb, map, min, nat_eq, nat_le, nat_lt, not, refl, replicate, rules, slice_index, slice_index_or, subst, suc, sym}
-pub use Rattle.std.proofs.Common.{take, true, zero, zero-add, ℕ, ◌%◌, ◌&&◌, ◌*◌, ◌++◌, ◌+◌, ◌-◌, ◌/◌, ◌<◌, ◌==◌, ◌^◌, ◌∙◌, ◌∷◌, ◌≡◌, ◌≢◌, ◌≤◌}
+pub use Rattle.std.proofs.Common.{length, length-append, length-drop, lit<, ltb, map, min, nat_le, nat_lt, not, refl, replicate, rules, slice_index, slice_index_or, subst, suc, sym, take}
+pub use Rattle.std.proofs.Common.{true, zero, zero-add, ℕ, ◌%◌, ◌&&◌, ◌*◌, ◌++◌, ◌+◌, ◌-◌, ◌/◌, ◌<◌, ◌==◌, ◌^◌, ◌∙◌, ◌∷◌, ◌≡◌, ◌≢◌, ◌≤◌}
 pub use Rattle.std.proofs.lemmas.Bool.{and_parts, cases_lt, eqb-false, le-leb, le-ltb, leb-true, lt-ltb, ltb-true, ne_eqb}
-pub use Rattle.std.proofs.lemmas.Bool.Decides.{Decides-and, Decides-eqb, nat_tests, same_from_decides}
+pub use Rattle.std.proofs.lemmas.Bool.Decides.{Decides-and, nat_tests}
 pub use Rattle.std.proofs.lemmas.Fmt.{IsAscii-decimal, decimal_by_steps, decimal_is_IsNumeral, parse-decimal}
 pub use Rattle.std.proofs.lemmas.Grind.{common_steps, same_number_lists}
 pub use Rattle.std.proofs.lemmas.List.{drop-append-le, drop-drop, drop-replicate, drop_all, ext_get_or, get_or-append_right, get_or-map, get_or-replicate, get_or_append_left}

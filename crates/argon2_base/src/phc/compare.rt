@@ -4,7 +4,7 @@ ghost use Rattle.std.specs.Prelude.{◌≡◌};
 ghost use Rattle.std.specs.Str.{bytes_eq};
 
 /// Whether two slices are equal. If they have one length, each byte of both is looked at.
-#[tactic(auto, using(crate::proofs::phc_lemmas::Compared::no_difference, crate::proofs::phc_lemmas::Compared::difference_none))]
+#[tactic(auto, using(crate::proofs::phc_lemmas::Compared::comparison))]
 pub fn are_equal(a: &[u8], b: &[u8]) -> bool
     ensures { result ≡ bytes_eq a.now b.now }
 {

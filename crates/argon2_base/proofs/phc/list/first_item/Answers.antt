@@ -1,8 +1,6 @@
-use Rattle.argon2_base.proofs.Imports.{◌∙◌, ap, items_of}
+use Rattle.argon2_base.proofs.Imports.{arith}
 use Rattle.argon2_base.proofs.phc_lemmas.Separators.{slice_split-first}
 use Rattle.argon2_base.proofs.phc.list.first_item.Goals as goal
 
 pub returns-in-Some-clause-items : goal.returns-in-Some-clause-items
-returns-in-Some-clause-items c =
-    let parts = c.in-Some.ensures in
-    ap items_of parts.0 ∙ slice_split-first 44 c.in-Some.item.now c.in-Some.rest.now parts.1
+returns-in-Some-clause-items c = rw c.in-Some.ensures.0 (slice_split-first 44 c.in-Some.item.now c.in-Some.rest.now c.in-Some.ensures.1)
