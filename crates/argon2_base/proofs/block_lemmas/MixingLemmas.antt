@@ -1,9 +1,10 @@
 -- From the vectors of the kernel to the mixing that the standard defines.
-use Rattle.argon2_base.proofs.Imports.{◌≡◌, ℕ, Bool, true, false, ◌<◌, ◌≤◌, ◌+◌, ◌-◌, ◌*◌, ◌/◌, ◌%◌, List, [], inl, inr, length, map, slice_index, slice_index_or, ◌==◌, if◌then◌else◌, arith}
-use Rattle.argon2_base.proofs.Imports.{refl, sym, ap, ap₂, ◌∙◌, zero-add, cases_lt, ext_get_or, get_or-map-range_with_len, length-map-range_with_len, get_or-zip2, length-zip2}
-use Rattle.argon2_base.proofs.Imports.{range_with_len, by_columns, by_rows, column, perm, row, xor_blocks, column_lanes, half_word, lane, lane_word, pairs, vector_words, written}
+use Rattle.argon2_base.proofs.Imports.{same_number_lists, ◌≡◌, ℕ, Bool, true, false, ◌<◌, ◌≤◌, ◌+◌, ◌-◌, ◌*◌, ◌/◌, ◌%◌, List, [], inl, inr, length, map, slice_index, slice_index_or, ◌==◌}
+use Rattle.argon2_base.proofs.Imports.{if◌then◌else◌, arith, refl, sym, ap, ap₂, ◌∙◌, zero-add, cases_lt, ext_get_or, get_or-map-range_with_len, length-map-range_with_len, get_or-zip2}
+use Rattle.argon2_base.proofs.Imports.{length-zip2, range_with_len, by_columns, by_rows, column, perm, row, xor_blocks, column_lanes, half_word, lane, lane_word, pairs, vector_words}
+use Rattle.argon2_base.proofs.Imports.{written}
 use Rattle.std.proofs.Common.{bit_xor}
-use Rattle.argon2_base.proofs.block_lemmas.LaneLemmas.{word_at, words_are}
+use Rattle.argon2_base.proofs.block_lemmas.LaneLemmas.{zip2_at, word_at, words_are}
 
 -- lane q of the vector of an even or an odd number, of two neighbours
 abbrev one_of : List (List ℕ) → ℕ → ℕ → ℕ → ℕ
@@ -49,14 +50,14 @@ in_rows r word are i k hi hk =
     (16 * i + k) _ 0 (omega arith) refl)
 
 -- a word of the columns that P mixed
-by_columns_word : (q : List ℕ) (w : ℕ) → w < 128
+pub by_columns_word : (q : List ℕ) (w : ℕ) → w < 128
     → slice_index (by_columns q) w ≡ slice_index (perm (column (w % 16 / 2) q)) (2 * (w / 16) + w % 2)
 unfolding by_columns
 by_columns_word q w h =
     get_or-map-range_with_len (λ w. slice_index (perm (column (w % 16 / 2) q)) (2 * (w / 16) + w % 2)) 0 128 w w 0 h (zero-add w)
 
 -- the columns are a block again
-length-by_columns : (q : List ℕ) → length (by_columns q) ≡ 128
+pub length-by_columns : (q : List ℕ) → length (by_columns q) ≡ 128
 unfolding by_columns
 length-by_columns q = length-map-range_with_len (λ w. slice_index (perm (column (w % 16 / 2) q)) (2 * (w / 16) + w % 2)) 0 128
 
@@ -64,44 +65,27 @@ length-by_columns q = length-map-range_with_len (λ w. slice_index (perm (column
 abbrev pub mixed_word : List ℕ → ℕ → ℕ
 mixed_word r w = slice_index (perm (column (w % 16 / 2) (by_rows r))) (2 * (w / 16) + w % 2)
 
--- xored with the word of r it is a word of G
-word_of_mixed : (r : List ℕ) → length r ≡ 128 → (w : ℕ) → w < 128
-    → bit_xor (mixed_word r w) (slice_index r w) ≡ slice_index (xor_blocks (by_columns (by_rows r)) r) w
+-- a word of the exclusive or of two blocks
+pub xor_word : (x y : List ℕ) (w : ℕ) → w < length x → w < length y
+    → slice_index (xor_blocks x y) w ≡ bit_xor (slice_index x w) (slice_index y w)
 unfolding xor_blocks
-word_of_mixed r long_r w h =
-    let q = by_rows r in
-    let long = length-by_columns q in
-    ap (λ a. bit_xor a (slice_index r w)) (sym (by_columns_word q w h))
-    ∙ sym (get_or-zip2 bit_xor (by_columns q) r w 0 0 0 (omega arith) (omega arith))
+xor_word x y w in_x in_y = zip2_at bit_xor x y w in_x in_y
 
--- a block whose words are each the exclusive or of two words is that of two blocks
-pub xored_words : (x y out : List ℕ) → length x ≡ 128 → length y ≡ 128 → length out ≡ 128
-    → ((w : ℕ) → w < 128 → slice_index out w ≡ bit_xor (slice_index x w) (slice_index y w)) → out ≡ xor_blocks x y
+-- the exclusive or of two blocks is a block
+pub length-xor_blocks : (x y : List ℕ) → length x ≡ length y → length (xor_blocks x y) ≡ length x
 unfolding xor_blocks
-xored_words x y out long_x long_y long_out xored =
-    let long = length-zip2 bit_xor x y (omega arith) in
-    ext_get_or 0 out (xor_blocks x y) (omega arith) (λ w h.
-    xored w (omega arith) ∙ sym (get_or-zip2 bit_xor x y w 0 0 0 (omega arith) (omega arith)))
+length-xor_blocks x y same = length-zip2 bit_xor x y same
 
--- the words of the columns of the rows, each xored with the word of r, are G
-stored_mixed : (r out : List ℕ) → length r ≡ 128 → length out ≡ 128
-    → ((w : ℕ) → w < 128 → slice_index out w ≡ bit_xor (mixed_word r w) (slice_index r w))
-    → out ≡ xor_blocks (by_columns (by_rows r)) r
-stored_mixed r out long_r long_out stored = grind (arith, xored_words, length-by_columns, by_columns_word)
+-- blocks are equal if their words are
+pub ruleset block_steps = (same_number_lists, xor_word, length-xor_blocks, by_columns_word, length-by_columns)
 
--- and if they are written over a block, so is G, or its exclusive or with the block
+-- if the words of the columns of the rows, each xored with the word of r, are written over a block, so is G, or its
+-- exclusive or with the block
 pub mixed_written : (xors : Bool) (r old out : List ℕ) → length r ≡ 128 → length old ≡ 128 → length out ≡ 128
     → ((w : ℕ) → w < 128
     → slice_index out w ≡ written xors (slice_index old w) (bit_xor (mixed_word r w) (slice_index r w)))
     → out ≡ (if xors then xor_blocks old (xor_blocks (by_columns (by_rows r)) r) else xor_blocks (by_columns (by_rows r)) r)
-unfolding xor_blocks
-mixed_written false r old out long_r long_old long_out stored = stored_mixed r out long_r long_out stored
-mixed_written true r old out long_r long_old long_out stored =
-    let q = by_rows r in
-    let long = length-by_columns q in
-    let long_m = length-zip2 bit_xor (by_columns q) r (omega arith) in
-    xored_words old (xor_blocks (by_columns q) r) out long_old (omega arith) long_out (λ w h.
-    stored w h ∙ ap (bit_xor (slice_index old w)) (word_of_mixed r long_r w h))
+mixed_written xors r old out long_r long_old long_out stored = grind (arith, block_steps)
 
 -- the vectors of the rows, mixed, turned, mixed and stored, are G
 pub kernel_mixes : (r out : List ℕ) (rows across cols down : List (List ℕ)) → length r ≡ 128 → length out ≡ 128
@@ -127,7 +111,7 @@ kernel_mixes r out rows across cols down long_r long_out rows_are across_are col
     sym (word_at (λ k. lane_word down k j) k hk)
     ∙ ap (λ l. slice_index l k) (down_are j hj ∙ ap perm (column_is j hj))
     in
-    stored_mixed r out long_r long_out (λ w h.
+    mixed_written false r r out long_r long_r long_out (λ w h.
     stored w h ∙ ap (λ a. bit_xor a (slice_index r w)) (down_word (w % 16 / 2) (2 * (w / 16) + w % 2) (omega arith) (omega arith)))
 
 -- the rows and then the columns of a half of eight vectors, mixed

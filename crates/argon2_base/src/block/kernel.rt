@@ -278,7 +278,7 @@ fn words(columns: &[u64x8; 16], r: &[u64x8; 16]) -> [u64; 128]
 
 /// The exclusive or, word by word.
 #[inline(always)]
-#[tactic(auto, using(crate::proofs::block_lemmas::MixingLemmas::xored_words))]
+#[tactic(auto, using(crate::proofs::block_lemmas::MixingLemmas::block_steps))]
 pub fn xor_into(x: &mut [u64; 128], y: &[u64; 128])
     ensures { x.new ≡ xor_blocks x.old y.now }
 {

@@ -1,4 +1,3 @@
-use Rattle.argon2_base.proofs.Imports.{arith}
 use Rattle.argon2_base.proofs.phc_lemmas.Separators.{slice_split-first}
 use Rattle.argon2_base.proofs.phc.list.first_item.Goals as goal
 
