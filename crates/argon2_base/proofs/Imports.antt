@@ -2,7 +2,7 @@
 pub use Rattle.std.proofs.Common.{All, Bool, Err, List, None, Ok, Option, Result, Some, T, [], add-one, add-zero, ap, ap₂, arith, bit_and, codes, drop, false, if◌then◌else◌, inl, inr}
 pub use Rattle.std.proofs.Common.{length, length-append, length-drop, lit<, ltb, map, min, nat_le, nat_lt, not, refl, replicate, rules, slice_index, slice_index_or, subst, suc, sym, take}
 pub use Rattle.std.proofs.Common.{true, zero, zero-add, ℕ, ◌%◌, ◌&&◌, ◌*◌, ◌++◌, ◌+◌, ◌-◌, ◌/◌, ◌<◌, ◌==◌, ◌^◌, ◌∙◌, ◌∷◌, ◌≡◌, ◌≢◌, ◌≤◌}
-pub use Rattle.std.proofs.lemmas.Bool.{and_parts, cases_lt, eqb-false, le-leb, le-ltb, leb-true, lt-ltb, ltb-true, ne_eqb}
+pub use Rattle.std.proofs.lemmas.Bool.{and_parts, cases_lt, eqb-false, le-leb, le-ltb, lt-ltb, ltb-true, ne_eqb}
 pub use Rattle.std.proofs.lemmas.Bool.Decides.{Decides-and, nat_tests}
 pub use Rattle.std.proofs.lemmas.Fmt.{IsAscii-decimal, decimal_by_steps, decimal_is_IsNumeral, parse-decimal}
 pub use Rattle.std.proofs.lemmas.Grind.{common_steps, same_number_lists}

@@ -1,7 +1,6 @@
 -- The fold over all blocks of a message: the blocks before the last, and then the last.
-use Rattle.argon2_base.proofs.Imports.{◌≡◌, ℕ, zero, suc, ◌+◌, ◌-◌, ◌*◌, ◌≤◌, min, true, false, List, [], ◌∷◌, ◌++◌, length, take, drop, replicate, refl, sym, ap, ◌∙◌, arith, length-append}
-use Rattle.argon2_base.proofs.Imports.{length-drop, add-zero, zero-add, drop-append-le, take_all, drop-drop, length-replicate, block_count, blocks, compress, hash_blocks, hash_after}
-use Rattle.argon2_base.proofs.Imports.{blocks_before}
+use Rattle.argon2_base.proofs.Imports.{common_steps, ◌≡◌, ℕ, zero, suc, ◌+◌, ◌-◌, ◌*◌, ◌≤◌, min, true, false, List, [], ◌∷◌, ◌++◌, length, take, drop, replicate, refl, ◌∙◌, arith, add-zero}
+use Rattle.argon2_base.proofs.Imports.{drop-append-le, take_all, drop-drop, block_count, blocks, compress, hash_blocks, hash_after, blocks_before}
 use Rattle.std.specs.Simd.{first_chunks}
 use Rattle.argon2_base.proofs.blake2b_lemmas.Absorbing.{held, IsAbsorbed, hash_after-append, hash_after_next}
 
@@ -22,11 +21,10 @@ hash_blocks_from : (l : ℕ) (i p : List ℕ) (k j : ℕ) → (k + j) * 128 ≤ 
     ≡ compress (hash_after i p (k + j)) (take 128 (drop ((k + j) * 128) p)) (min ((k + j) * 128 + 128) l) true
 hash_blocks_from l i p k zero h = hash_blocks_one l (k * 128) _ _ ∙ rw add-zero refl
 hash_blocks_from l i p k (suc j) h =
-    let clock : min (k * 128 + 128) l ≡ k * 128 + 128 = omega arith in
-    let along : k + suc j ≡ (k + 1) + j = omega arith in
-    let on : (k + 1) * 128 ≡ k * 128 + 128 = omega arith in
-    let rest = rw (on, hash_after_next i p k) at (hash_blocks_from l i p (k + 1) j (omega arith)) in
-    hash_blocks_more l (k * 128) _ _ _ _ ∙ rw (clock, drop-drop 128 (k * 128) p, along) rest
+    let rest = hash_blocks_from l i p (k + 1) j (omega arith) in
+    let next = hash_after_next i p k in
+    let along = drop-drop 128 (k * 128) p in
+    grind (arith, hash_blocks_more)
 
 -- the last block x is the bytes that are held, and zeros
 pub hash_blocks_whole : (i m b x h : List ℕ) → IsAbsorbed i h b m
@@ -36,16 +34,11 @@ unfolding hash_after
 hash_blocks_whole i m b x h a ex =
     let l : ℕ = length m in
     let q : ℕ = blocks_before l in
-    let n : block_count l ≡ suc q = omega arith in
     let zeros : List ℕ = replicate (128 * suc q - l) 0 in
-    let p : List ℕ = m ++ zeros in
-    let room : 128 * suc q - l ≡ 128 - held m = omega arith in
-    let lp : length p ≡ l + (128 * suc q - l) = omega (arith, length-append m zeros, length-replicate {A = ℕ}) in
-    let tail : drop (q * 128) p ≡ x =
-    drop-append-le (q * 128) m zeros (omega arith) ∙ rw (room, ← a.1) (sym ex) in
-    let lx : length x ≡ 128 = omega (arith, ap length tail, length-drop (q * 128) p) in
+    let n : block_count l ≡ suc q = omega arith in
     let clock : min (q * 128 + 128) l ≡ l = omega arith in
-    let whole : hash_blocks l 0 i (first_chunks 128 (suc q) p)
-    ≡ compress (hash_after i p q) (take 128 (drop (q * 128) p)) (min (q * 128 + 128) l) true =
-    rw (zero-add q) at (hash_blocks_from l i p 0 q (omega arith)) in
-    rw n (sym (rw (hash_after-append i m zeros q (omega arith), tail, take_all 128 x (omega arith), clock, ← a.0) at whole))
+    let kept = hash_after-append i m zeros q (omega arith) in
+    let tail = drop-append-le (q * 128) m zeros (omega arith) in
+    let whole = hash_blocks_from l i (m ++ zeros) 0 q (omega arith) in
+    let block = take_all 128 x (grind (arith, common_steps)) in
+    grind (arith, common_steps)

@@ -78,12 +78,10 @@ pub in_eights : (x : List (List ℕ)) (words : List ℕ) → length words ≡ 12
     → words_in_eights x ≡ words
 unfolding words_in_eights
 in_eights x words long same =
-    let long_x : length (words_in_eights x) ≡ 128 = length-map-range_with_len (λ w. lane_word x (w / 8) (w % 8)) 0 128 in
+    let long_x = length-map-range_with_len (λ w. lane_word x (w / 8) (w % 8)) 0 128 in
     ext_get_or 0 (words_in_eights x) words (long_x ∙ sym long) (λ w h.
-    let place : 8 * (w / 8) + w % 8 ≡ w = omega arith in
-    word_in_eights x (w / 8) (w % 8) w (omega arith) (omega arith) place
-    ∙ same (w / 8) (omega arith) (w % 8) (omega arith)
-    ∙ ap (slice_index words) place)
+    word_in_eights x (w / 8) (w % 8) w (omega arith) (omega arith) (omega arith)
+    ∙ same (w / 8) (omega arith) (w % 8) (omega arith) ∙ ap (slice_index words) (omega arith))
 
 -- the left and the right halves of the rows are vectors of even and of odd numbers
 pub half_row : (x : List (List ℕ)) (i k e : ℕ) → i < 8 → k < 8 → e < 2

@@ -1,6 +1,6 @@
 -- The engine without padding reads and writes strict Base64, and nothing else.
-use Rattle.argon2_base.proofs.Imports.{common_steps, ◌≡◌, ◌≢◌, ℕ, zero, suc, ◌+◌, ◌*◌, ◌/◌, ◌<◌, ◌≤◌, Bool, true, ◌&&◌, nat_le, nat_lt, List, [], ◌∷◌, ◌++◌, length, take, drop, Ok, Err}
-use Rattle.argon2_base.proofs.Imports.{refl, sym, ◌∙◌, ap, arith, Result, Option, Some, None, and_parts, le-leb, leb-true, lt-ltb, ltb-true, IsUtf8-from_ascii, list_all, IsUtf8}
+use Rattle.argon2_base.proofs.Imports.{nat_tests, common_steps, ◌≡◌, ◌≢◌, ℕ, zero, suc, ◌+◌, ◌*◌, ◌/◌, ◌<◌, ◌≤◌, Bool, true, ◌&&◌, nat_le, nat_lt, List, [], ◌∷◌, ◌++◌, length, take, drop}
+use Rattle.argon2_base.proofs.Imports.{Ok, Err, refl, sym, ◌∙◌, ap, arith, Result, Option, Some, None, and_parts, le-leb, lt-ltb, ltb-true, IsUtf8-from_ascii, list_all, IsUtf8}
 use Rattle.argon2_base.proofs.Imports.{standard_no_pad, encode_symbols, decode_of, decoded_of, encode_of, encoded_size_of, DecodeError, alphabet, strict_base64, short_bytes, IsBytes}
 use Rattle.argon2_base.proofs.Imports.{base64_length, IsBase64Cause}
 use Rattle.std.proofs.lemmas.List.{append-nil}
@@ -57,8 +57,7 @@ pub short_bytes_found : (most : ℕ) (s b : List ℕ) → IsBytes s → short_by
     → IsBytes b × (length b ≤ most) × (s ≡ strict_base64 b)
 short_bytes_found most s b bytes h =
     let found = short_by most s b (decode_of standard_no_pad s) refl h in
-    let parts = and_parts (nat_le (length b) most) (list_all (λ x. nat_lt x 256) b) found.1 in
-    (passing_bytes b parts.1, leb-true (length b) most parts.0, strict_base64_decoded s b bytes found.0)
+    grind (arith, nat_tests, passing_bytes, strict_base64_decoded)
 
 -- `short_bytes` finds the bytes of each such text
 pub short_bytes_again : (most : ℕ) (s b : List ℕ) → IsBytes b → length b ≤ most → s ≡ strict_base64 b

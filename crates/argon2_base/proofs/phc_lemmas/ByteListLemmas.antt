@@ -1,7 +1,7 @@
 -- Byte lists with zeros behind their bytes: what copying and decoding into zeros leaves.
-use Rattle.argon2_base.proofs.Imports.{common_steps, ◌≡◌, ℕ, ◌-◌, ◌≤◌, Bool, false, List, ◌++◌, length, take, drop, replicate, if◌then◌else◌, Option, Result, Ok, Err, refl, sym, ap, ◌∙◌}
-use Rattle.argon2_base.proofs.Imports.{arith, nat_tests, le-ltb, drop-replicate, take_at, drop-append-drop, standard_no_pad, decode_slice_of, decoded_bytes_of, DecodeError, IsBytes}
-use Rattle.argon2_base.proofs.Imports.{strict_base64, base64_length}
+use Rattle.argon2_base.proofs.Imports.{common_steps, ◌≡◌, ℕ, ◌-◌, ◌≤◌, Bool, false, List, ◌++◌, length, take, drop, replicate, if◌then◌else◌, Option, Result, Ok, Err, sym, ◌∙◌, arith}
+use Rattle.argon2_base.proofs.Imports.{nat_tests, le-ltb, drop-replicate, take_at, drop-append-drop, standard_no_pad, decode_slice_of, decoded_bytes_of, DecodeError, IsBytes, strict_base64}
+use Rattle.argon2_base.proofs.Imports.{base64_length}
 use Rattle.base64.specs.Decode.{bytes_fit, decode_outcome, or_else, or_error}
 use Rattle.base64.specs.declared.decode.DecodeSliceError.{DecodeSliceError}
 use Rattle.base64.specs.declared.decode.DecodeSliceError.TheVariants.{OutputSliceTooSmall}
@@ -40,15 +40,13 @@ pub decoded_into_zeros : (s t new : List ℕ) (room wide n : ℕ) → t ≡ s �
     → IsDecoded s new room n
 decoded_into_zeros s t new room wide n same length_is text_bytes ok bytes' written' =
     let d : List ℕ = decoded_bytes_of standard_no_pad s in
-    let bytes : IsBytes d = rw same at bytes' in
-    let written : new ≡ d ++ drop (length d) (replicate room 0) = rw same at written' in
     let parts = answer_ok _ _ _ d room n (rw (same, length_is) at (sym ok)) in
-    let front : take n new ≡ d = rw written (take_at d (drop (length d) (replicate room 0)) n (sym parts.1)) in
+    let front = take_at d (drop (length d) (replicate room 0)) n (sym parts.1) in
     record {
-      bytes = rw front bytes;
-      text = strict_base64_decoded s d text_bytes parts.0 ∙ ap strict_base64 (sym front);
-      zeros = rw (written, parts.1) (drop-filled room (length d) d refl);
-      fits = omega (arith, parts.1, parts.2);
+      bytes = grind arith;
+      text = grind (arith, strict_base64_decoded);
+      zeros = grind (arith, drop-filled);
+      fits = grind arith;
     }
 
 -- no text of bytes is refused that is no longer than that of as many bytes as there is room for

@@ -6,11 +6,7 @@ use Rattle.argon2_base.proofs.Imports.{nat_tests, same_number_lists, bytes_eq-De
 -- if no difference is noted after two bytes, none was before them, and they are equal
 pub no_difference : (d x y : ℕ) → bit_or d (bit_xor x y) ≡ 0 → (d ≡ 0) × (x ≡ y)
 no_difference d x y h =
-    let left = le_or_l d (bit_xor x y) in
-    let right = le_or_r d (bit_xor x y) in
-    let none : bit_xor x y ≡ 0 = omega arith in
-    let back : bit_xor x (bit_xor y y) ≡ y = rw (← xor_assoc x y y, none) (xor_zero_l y) in
-    (omega arith, sym (xor_zero_r x) ∙ rw xor_self at back)
+    grind (arith, le_or_l, le_or_r, xor_assoc x y y, xor_zero_l, xor_zero_r, xor_self)
 
 -- equal bytes add no difference
 pub difference_none : (d x y : ℕ) → d ≡ 0 → x ≡ y → bit_or d (bit_xor x y) ≡ 0

@@ -82,10 +82,7 @@ pub text_of_fields : (text t : List ℕ) {first : List ℕ} (v : Phc) {f0 f1 f2 
     → fields_of t ≡ first ∷ f0 → v.algorithm ≡ first → f0 ≡ field version_text v.version ++ f1
     → f1 ≡ list_field v.params ++ f2 → f2 ≡ from_salt v → text ≡ phc_text v
 text_of_fields text t v e f a e1 e2 e3 =
-    let same : fields_of t ≡ fields v = rw (f, e1, e2, e3, a) refl in
-    let back = join_with_byte-slice_split 36 t in
-    let whole = flat_map-dollar v.algorithm (field version_text v.version ++ from_params v) in
-    cc
+    grind (arith, join_with_byte-slice_split 36 t, flat_map-dollar)
 
 -- ---- which field comes next
 
@@ -131,15 +128,13 @@ none_after s o h n = grind arith
 pub no_list_read : (f : List ℕ) (more rest : List (List ℕ)) (ps : List Pair) → ((p : Pair) → f ≢ item p)
     → f ∷ more ≡ list_field ps ++ rest → (◌≡◌ {A = List Pair} [] ps) × (f ∷ more ≡ rest)
 no_list_read f more rest [] h e = (refl, e)
-no_list_read f more rest (p ∷ ps) h e =
-    let t = text_item p ps in
-    absurd (let same : f ≡ params_text (p ∷ ps) = cc in h (p.0, t.0) (same ∙ t.1))
+no_list_read f more rest (p ∷ ps) h e = grind (arith, text_item p ps, h (p.0, (text_item p ps).0))
 
 -- an item begins a list
 pub list_read : (f : List ℕ) (more rest : List (List ℕ)) (ps : List Pair) (p : Pair) → f ≡ item p → NoItemFirst rest
     → f ∷ more ≡ list_field ps ++ rest → (f ≡ params_text ps) × (more ≡ rest)
 list_read f more rest [] p is k e = absurd (k p more (sym e ∙ ap (λ (x : List ℕ). x ∷ more) is))
-list_read f more rest (q ∷ ps) p is k e = (cc e, cc e)
+list_read f more rest (q ∷ ps) p is k e = grind arith
 
 -- bytes, and bytes with the same strict Base64, are one
 base64_one : (b d : List ℕ) → IsBytes b → IsBytes d → strict_base64 b ≡ strict_base64 d → b ≡ d
@@ -150,7 +145,7 @@ first_only : (low high : ℕ) (f : List ℕ) (left more : List (List ℕ)) (P : 
     → left ≡ f ∷ more → ((d : List ℕ) → HasBytes low high d → f ≡ strict_base64 d → P (Some d) more)
     → (o : Option (List ℕ)) (rest : List (List ℕ)) → IfSome o (HasBytes low high) → (IsNone o → rest ≡ [])
     → left ≡ field strict_base64 o ++ rest → P o rest
-first_only low high f left more P e says None rest has none is = absurd (let g = none refl in cc)
+first_only low high f left more P e says None rest has none is = grind arith
 first_only low high f left more P e says (Some d) rest has none is = grind arith
 
 -- bytes whose strict Base64 is the first field are read

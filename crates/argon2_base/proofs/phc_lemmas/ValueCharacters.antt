@@ -8,12 +8,9 @@ digit_char n h = grind (arith, nat_tests)
 
 -- a decimal has characters of values alone
 pub decimal_chars : (n : ℕ) → n < 2 ^ 64 → list_all is_value_char (decimal n) ≡ true
-decimal_chars n small = decimal_by_steps (λ n ds. list_all is_value_char ds ≡ true)
-    (λ n h. rw (digit_char n h) refl)
-    (λ n ds ten h.
-    let last : n % 10 < 10 = omega arith in
-    rw (list_all-append is_value_char ds ((48 + n % 10) ∷ []), h, digit_char (n % 10) last) refl)
-    n small
+decimal_chars n small =
+    decimal_by_steps (λ n ds. list_all is_value_char ds ≡ true) (λ n h. grind (arith, digit_char))
+    (λ n ds ten h. grind (arith, list_all-append is_value_char ds, digit_char (n % 10))) n small
 
 -- what passes at each place
 list_all_get : (p : ℕ → Bool) (t : List ℕ) (i : ℕ) → list_all p t ≡ true → i < length t → p (slice_index_or t i 0) ≡ true
@@ -24,15 +21,11 @@ encoded_chars : (p : ℕ → Bool) (t : List ℕ) (m : List ℕ) → ((i : ℕ) 
     → list_all p (encode_symbols t m) ≡ true
 unfolding encode_symbols
 encoded_chars p t [] passes bytes = refl
-encoded_chars p t (a ∷ []) passes bytes =
-    rw (passes (a / 4) (omega (arith, bytes 0)), passes (a % 4 * 16) (omega arith)) refl
-encoded_chars p t (a ∷ b ∷ []) passes bytes =
-    rw (passes (a / 4) (omega (arith, bytes 0)), passes (a % 4 * 16 + b / 16) (omega (arith, bytes 1)))
-    (rw (passes (b % 16 * 4) (omega arith)) refl)
+encoded_chars p t (a ∷ []) passes bytes = grind (arith, passes (a / 4), passes (a % 4 * 16), bytes 0)
+encoded_chars p t (a ∷ b ∷ []) passes bytes = grind (arith, passes (a / 4), passes (a % 4 * 16 + b / 16), passes (b % 16 * 4), bytes 0, bytes 1)
 encoded_chars p t (a ∷ b ∷ c ∷ m) passes bytes =
-    rw (passes (a / 4) (omega (arith, bytes 0)), passes (a % 4 * 16 + b / 16) (omega (arith, bytes 1)))
-    (rw (passes (b % 16 * 4 + c / 64) (omega (arith, bytes 2)), passes (c % 64) (omega arith))
-    (rw (encoded_chars p t m passes (λ i. bytes (suc (suc (suc i))))) refl))
+    let rest = encoded_chars p t m passes (λ i. bytes (suc (suc (suc i)))) in
+    grind (arith, passes (a / 4), passes (a % 4 * 16 + b / 16), passes (b % 16 * 4 + c / 64), passes (c % 64), bytes 0, bytes 1, bytes 2)
 
 -- each strict Base64 text is made of characters of values
 pub base64_chars : (b : List ℕ) → IsBytes b → list_all is_value_char (strict_base64 b) ≡ true
