@@ -31,7 +31,7 @@ pub use Rattle.argon2_base.specs.Blake2b.{block_count, blocks, initial_state, si
 unfoldable pub use Rattle.argon2_base.specs.Blake2b.{blake2b, compress, hash_blocks, round, rounds}
 pub use Rattle.argon2_base.specs.Block.{bytes_of}
 unfoldable pub use Rattle.argon2_base.specs.Block.{add_mul, by_columns, by_rows, column, gb, mix_columns, mix_diagonals, mixed, perm, row, words_of, xor_blocks, xor_rotate}
-pub use Rattle.argon2_base.specs.ByteList.{IsBase64Cause, base64_length, list_bytes}
+pub use Rattle.argon2_base.specs.ByteList.{IsBase64Cause, base64_length}
 pub use Rattle.argon2_base.specs.Hasher.{Hasher, blocks_before, held_len}
 unfoldable pub use Rattle.argon2_base.specs.Hasher.{Holds, hash_after, hash_on}
 pub use Rattle.argon2_base.specs.Lanes.{column_lanes, exchanged_left, exchanged_right, fours, group, half_word, lane, lane_word, pairs, vector_words, written}

@@ -7,7 +7,7 @@ use Rattle.std.proofs.Common.{append_assoc}
 use Rattle.std.proofs.lemmas.List.{append-nil}
 use Rattle.std.specs.Str.Pattern.{FindsCharPrefix}
 use Rattle.argon2_base.specs.declared.error.password_hash.Error.TheVariants.{EncodingInvalid}
-use Rattle.argon2_base.proofs.phc_lemmas.Base64Lemmas.{decode_of-strict_base64, strict_base64_unique}
+use Rattle.argon2_base.proofs.phc_lemmas.Base64Lemmas.{decode_of-strict_base64, length-strict_base64, refused_text, strict_base64_unique}
 use Rattle.argon2_base.proofs.phc_lemmas.Characters.{lacks_by}
 use Rattle.argon2_base.proofs.phc_lemmas.Separators.{Lacks, Lacks-append, Lacks_not, all-append, cut_joined}
 use Rattle.argon2_base.proofs.phc_lemmas.ParamsTextLemmas.{all_params, name_lacks, item_lacks, pair_again, param_name}
@@ -171,3 +171,6 @@ left_none None e = refl
 left_none (Some x) e = absurd (omega (arith, ap length e, length-slice_split (λ b. b == 36) x.now))
 
 -- ---- printing
+
+-- which bytes a field is refused for
+pub ruleset field_steps = (bytes_refused, refused_text, length-strict_base64)

@@ -169,6 +169,7 @@ impl fmt::Debug for Output {
 }
 
 // The strict Base64 of bytes: at most 4 characters for 3 bytes.
+#[tactic(auto, using(crate::proofs::phc_lemmas::Base64Lemmas::strict_base64_written))]
 pub(super) fn base64_text<const N: usize>(bytes: &[u8]) -> ArrayString<N>
     requires { 4 * length bytes.now ≤ 3 * N }
     ensures { result.bytes ≡ strict_base64 bytes.now }

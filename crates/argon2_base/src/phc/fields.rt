@@ -71,6 +71,7 @@ pub(super) fn params_field(left: Option<&str>) -> Result<(ParamsString, Option<&
 }
 
 // The bytes, given in strict Base64, if anything is left, and what is left.
+#[tactic(auto, using(crate::proofs::phc_lemmas::PhcTextLemmas::field_steps))]
 fn bytes_field<const LOW: usize, const HIGH: usize>(
     left: Option<&str>,
 ) -> Result<(Option<TextBytes<LOW, HIGH>>, Option<&str>)>
