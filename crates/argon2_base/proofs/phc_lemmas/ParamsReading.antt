@@ -58,9 +58,7 @@ item_again (c ∷ s) h = let again = item_again s in grind (arith, nat_tests)
 -- parts that are read as parameters are their items
 pub parts_again : (xs : List (List ℕ)) → list_all is_param (map pair_of xs) ≡ true → map item (map pair_of xs) ≡ xs
 parts_again [] h = refl
-parts_again (x ∷ xs) h =
-    let b = and_parts (is_param (pair_of x)) (list_all is_param (map pair_of xs)) h in
-    rw (item_again x (value_length (pair_of x) b.0), parts_again xs b.1) refl
+parts_again (x ∷ xs) h = grind (arith, item_again x, value_length (pair_of x), parts_again xs)
 
 -- the parts of a list's text are parameters with distinct names
 pub good_items : (text : List ℕ) (ps : List Pair) → ParamsText text ps

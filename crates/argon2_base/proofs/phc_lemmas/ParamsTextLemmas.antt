@@ -34,16 +34,12 @@ item_lacks c a b d p h = grind (arith, Lacks-append, name_lacks, param_name, lac
 -- items have no `,`
 pub items_lack : (ps : List Pair) → list_all is_param ps ≡ true → AllByRecursion (Lacks 44) (map item ps)
 items_lack [] h = tt
-items_lack (p ∷ ps) h =
-    let b = and_parts (is_param p) (list_all is_param ps) h in
-    (item_lacks 44 refl refl refl p b.0, items_lack ps b.1)
+items_lack (p ∷ ps) h = grind (arith, item_lacks 44 refl refl refl p, items_lack ps)
 
 -- items are read as their parameters
 pub map_again : (ps : List Pair) → list_all is_param ps ≡ true → map pair_of (map item ps) ≡ ps
 map_again [] h = refl
-map_again (p ∷ ps) h =
-    let b = and_parts (is_param p) (list_all is_param ps) h in
-    rw (pair_again p.0 p.1 (name_lacks 61 refl p.0 (param_name p b.0)), map_again ps b.1) refl
+map_again (p ∷ ps) h = grind (arith, pair_again p.0 p.1, name_lacks 61 refl p.0, param_name p, map_again ps)
 
 -- ---- the whole list
 

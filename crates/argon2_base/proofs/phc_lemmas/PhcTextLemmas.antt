@@ -19,35 +19,19 @@ use Rattle.argon2_base.proofs.phc_lemmas.ValueCharacters.{decimal_chars, base64_
 params_text_lacks : (ps : List Pair) → list_all is_param ps ≡ true → Lacks 36 (params_text ps)
 params_text_lacks [] h = tt
 params_text_lacks (p ∷ []) h = item_lacks 36 refl refl refl p (and_parts (is_param p) true h).0
-params_text_lacks (p ∷ q ∷ ps) h =
-    let k = and_parts (is_param p) (list_all is_param (q ∷ ps)) h in
-    Lacks-append 36 (item p) (44 ∷ params_text (q ∷ ps)) (item_lacks 36 refl refl refl p k.0)
-    (refl, params_text_lacks (q ∷ ps) k.1)
+params_text_lacks (p ∷ q ∷ ps) h = grind (arith, item_lacks 36 refl refl refl p, Lacks-append 36, params_text_lacks (q ∷ ps))
 
 -- strict Base64 lacks what is no character of values
 base64_lacks : (c : ℕ) → is_value_char c ≡ false → (b : List ℕ) → IsBytes b → Lacks c (strict_base64 b)
 base64_lacks c fails b bytes = lacks_by is_value_char c fails (strict_base64 b) (base64_chars b bytes)
 
--- the field of a version has no `$`
-version_field_lacks : (o : Option ℕ) → IfSome o (λ n. n < 2 ^ 32) → AllByRecursion (Lacks 36) (field version_text o)
-version_field_lacks None h = tt
-version_field_lacks (Some n) h =
-    ((refl, (refl, lacks_by is_value_char 36 refl (decimal n) (decimal_chars n (omega arith)))), tt)
-
--- the field of bytes has no `$`
-bytes_field_lacks : (low high : ℕ) (o : Option (List ℕ)) → IfSome o (HasBytes low high)
-    → AllByRecursion (Lacks 36) (field strict_base64 o)
-bytes_field_lacks low high None h = tt
-bytes_field_lacks low high (Some b) h = (base64_lacks 36 refl b h.0, tt)
-
--- the field of parameters has no `$`
-list_field_lacks : (ps : List Pair) → are_params ps ≡ true → AllByRecursion (Lacks 36) (list_field ps)
-list_field_lacks [] h = tt
-list_field_lacks (p ∷ ps) h = (params_text_lacks (p ∷ ps) (all_params (p ∷ ps) h), tt)
+-- a decimal has no `$`
+decimal_lacks : (n : ℕ) → n < 2 ^ 32 → Lacks 36 (decimal n)
+decimal_lacks n small = lacks_by is_value_char 36 refl (decimal n) (decimal_chars n (omega arith))
 
 -- no field has a `$`
 fields_lack : (v : Phc) → IsPhc v → AllByRecursion (Lacks 36) (fields v)
-fields_lack v h = grind (arith, name_lacks, all-append, version_field_lacks, list_field_lacks, bytes_field_lacks)
+fields_lack v h = grind (arith, name_lacks 36 refl v.algorithm, all-append, decimal_lacks, base64_lacks 36 refl, params_text_lacks v.params, all_params v.params)
 
 -- ---- the fields joined
 
@@ -140,23 +124,10 @@ list_read f more rest (q ∷ ps) p is k e = grind arith
 base64_one : (b d : List ℕ) → IsBytes b → IsBytes d → strict_base64 b ≡ strict_base64 d → b ≡ d
 base64_one b d bytes others e = strict_base64_unique (strict_base64 d) b d bytes (sym e) (decode_of-strict_base64 d others)
 
--- what the first field f says of the bytes that are read
-first_only : (low high : ℕ) (f : List ℕ) (left more : List (List ℕ)) (P : Option (List ℕ) → List (List ℕ) → Type 0)
-    → left ≡ f ∷ more → ((d : List ℕ) → HasBytes low high d → f ≡ strict_base64 d → P (Some d) more)
-    → (o : Option (List ℕ)) (rest : List (List ℕ)) → IfSome o (HasBytes low high) → (IsNone o → rest ≡ [])
-    → left ≡ field strict_base64 o ++ rest → P o rest
-first_only low high f left more P e says None rest has none is = grind arith
-first_only low high f left more P e says (Some d) rest has none is = grind arith
-
 -- bytes whose strict Base64 is the first field are read
 pub bytes_read : (low high : ℕ) (b : List ℕ) (left : List (List ℕ)) (more : Option (Bor (List ℕ)))
     → left ≡ strict_base64 b ∷ fields_left more → HasBytes low high b → IsBytesField low high left (Ok (Some b, more))
-bytes_read low high b left more e h = record {
-  found = (e, h);
-  end = λ none. absurd cc;
-  only = first_only low high _ left _ _ e (λ d has same. (ap Some (base64_one b d h.0 has.0 same), refl));
-  invalid = tt;
-}
+bytes_read low high b left more e h = grind (arith, base64_one)
 
 -- a field that is the strict Base64 of no such bytes is refused
 pub bytes_refused : (low high : ℕ) (f : List ℕ) (left more : List (List ℕ)) → left ≡ f ∷ more
@@ -169,8 +140,6 @@ bytes_refused low high f left more e h = grind arith
 pub left_none : (o : Option (Bor (List ℕ))) → fields_left o ≡ [] → is_some o ≡ false
 left_none None e = refl
 left_none (Some x) e = absurd (omega (arith, ap length e, length-slice_split (λ b. b == 36) x.now))
-
--- ---- printing
 
 -- which bytes a field is refused for
 pub ruleset field_steps = (bytes_refused, refused_text, length-strict_base64)
