@@ -1,6 +1,6 @@
 -- The fold over all blocks of a message: the blocks before the last, and then the last.
 use Rattle.argon2_base.proofs.Imports.{common_steps, ◌≡◌, ℕ, zero, suc, ◌+◌, ◌-◌, ◌*◌, ◌≤◌, min, true, false, List, [], ◌∷◌, ◌++◌, length, take, drop, replicate, refl, ◌∙◌, arith, add-zero}
-use Rattle.argon2_base.proofs.Imports.{drop-append-le, take_all, drop-drop, block_count, blocks, compress, hash_blocks, hash_after, blocks_before}
+use Rattle.argon2_base.proofs.Imports.{take_all, drop-drop, block_count, blocks, compress, hash_blocks, hash_after, blocks_before}
 use Rattle.std.specs.Simd.{first_chunks}
 use Rattle.argon2_base.proofs.blake2b_lemmas.Absorbing.{held, IsAbsorbed, hash_after-append, hash_after_next}
 
@@ -38,7 +38,6 @@ hash_blocks_whole i m b x h a ex =
     let n : block_count l ≡ suc q = omega arith in
     let clock : min (q * 128 + 128) l ≡ l = omega arith in
     let kept = hash_after-append i m zeros q (omega arith) in
-    let tail = drop-append-le (q * 128) m zeros (omega arith) in
     let whole = hash_blocks_from l i (m ++ zeros) 0 q (omega arith) in
     let block = take_all 128 x (grind (arith, common_steps)) in
     grind (arith, common_steps)

@@ -1,12 +1,11 @@
 -- The fields of a text, and the text of the fields.
-use Rattle.argon2_base.proofs.Imports.{◌≡◌, ◌≢◌, ℕ, ◌<◌, ◌^◌, true, false, List, [], ◌∷◌, ◌++◌, length, refl, sym, ap, ◌∙◌, subst, arith, Option, Some, None, Ok, Err, codes, ◌==◌, ◌+◌, drop}
-use Rattle.argon2_base.proofs.Imports.{lit<, and_parts, IfSome, IsSome, IsNone, is_some, Bor, strip_prefix_char, join_with_byte-slice_split, length-slice_split, list_all, flat_map}
-use Rattle.argon2_base.proofs.Imports.{AllByRecursion, join_with_byte, decimal, IsBytes, is_value_char, strict_base64, HasBytes, IsPhc, Pair, Phc, PhcText, are_params, field, fields}
-use Rattle.argon2_base.proofs.Imports.{is_param, item, list_field, params_text, phc_text, version_text, fields_of, fields_left, IsBytesField, NoVersionFirst, NoItemFirst}
+use Rattle.argon2_base.proofs.Imports.{◌≡◌, ◌≢◌, ℕ, ◌<◌, ◌^◌, true, false, List, [], ◌∷◌, ◌++◌, length, refl, sym, ap, ◌∙◌, subst, arith, Option, Some, None, codes, ◌==◌, ◌+◌, drop}
+use Rattle.argon2_base.proofs.Imports.{and_parts, IfSome, IsSome, IsNone, is_some, Bor, join_with_byte-slice_split, length-slice_split, list_all, flat_map, AllByRecursion, join_with_byte}
+use Rattle.argon2_base.proofs.Imports.{decimal, IsBytes, is_value_char, strict_base64, HasBytes, IsPhc, Pair, Phc, PhcText, are_params, field, fields, is_param, item, list_field}
+use Rattle.argon2_base.proofs.Imports.{params_text, phc_text, version_text, fields_of, fields_left, NoVersionFirst, NoItemFirst}
 use Rattle.std.proofs.Common.{append_assoc}
 use Rattle.std.proofs.lemmas.List.{append-nil}
 use Rattle.std.specs.Str.Pattern.{FindsCharPrefix}
-use Rattle.argon2_base.specs.declared.error.password_hash.Error.TheVariants.{EncodingInvalid}
 use Rattle.argon2_base.proofs.phc_lemmas.Base64Lemmas.{decode_of-strict_base64, length-strict_base64, refused_text, strict_base64_unique}
 use Rattle.argon2_base.proofs.phc_lemmas.Characters.{lacks_by}
 use Rattle.argon2_base.proofs.phc_lemmas.Separators.{Lacks, Lacks-append, Lacks_not, all-append, cut_joined}
@@ -56,7 +55,6 @@ pub first_and_left : (text : List ℕ) (t : Bor (List ℕ)) {first : List ℕ} {
     → (first ≡ v.algorithm) × (left ≡ field version_text v.version ++ from_params v)
 first_and_left text t v h cases f =
     let behind : List (List ℕ) = field version_text v.version ++ from_params v in
-    let e = strip_prefix_char 36 text (Some t) cases (lit< tt) in
     let same = flat_map-dollar v.algorithm behind in
     let cut = cut_joined 36 v.algorithm behind (fields_lack v h.0) in
     (cc h.1, cc h.1)
@@ -71,7 +69,7 @@ text_of_fields text t v e f a e1 e2 e3 =
 -- ---- which field comes next
 
 -- a list's text is an item, whose value may have more items in it
-text_item : (p : Pair) (ps : List Pair) → (value : List ℕ) × (params_text (p ∷ ps) ≡ item (p.0, value))
+pub text_item : (p : Pair) (ps : List Pair) → (value : List ℕ) × (params_text (p ∷ ps) ≡ item (p.0, value))
 text_item p [] = (p.1, refl)
 text_item p (q ∷ ps) = (p.1 ++ 44 ∷ params_text (q ∷ ps), append_assoc p.0 (61 ∷ p.1) (44 ∷ params_text (q ∷ ps)))
 
@@ -121,18 +119,8 @@ list_read f more rest [] p is k e = absurd (k p more (sym e ∙ ap (λ (x : List
 list_read f more rest (q ∷ ps) p is k e = grind arith
 
 -- bytes, and bytes with the same strict Base64, are one
-base64_one : (b d : List ℕ) → IsBytes b → IsBytes d → strict_base64 b ≡ strict_base64 d → b ≡ d
+pub base64_one : (b d : List ℕ) → IsBytes b → IsBytes d → strict_base64 b ≡ strict_base64 d → b ≡ d
 base64_one b d bytes others e = strict_base64_unique (strict_base64 d) b d bytes (sym e) (decode_of-strict_base64 d others)
-
--- bytes whose strict Base64 is the first field are read
-pub bytes_read : (low high : ℕ) (b : List ℕ) (left : List (List ℕ)) (more : Option (Bor (List ℕ)))
-    → left ≡ strict_base64 b ∷ fields_left more → HasBytes low high b → IsBytesField low high left (Ok (Some b, more))
-bytes_read low high b left more e h = grind (arith, base64_one)
-
--- a field that is the strict Base64 of no such bytes is refused
-pub bytes_refused : (low high : ℕ) (f : List ℕ) (left more : List (List ℕ)) → left ≡ f ∷ more
-    → ((b : List ℕ) → HasBytes low high b → f ≢ strict_base64 b) → IsBytesField low high left (Err EncodingInvalid)
-bytes_refused low high f left more e h = grind arith
 
 -- ---- the whole text
 
@@ -141,5 +129,5 @@ pub left_none : (o : Option (Bor (List ℕ))) → fields_left o ≡ [] → is_so
 left_none None e = refl
 left_none (Some x) e = absurd (omega (arith, ap length e, length-slice_split (λ b. b == 36) x.now))
 
--- which bytes a field is refused for
-pub ruleset field_steps = (bytes_refused, refused_text, length-strict_base64)
+-- which bytes and which items stand first
+pub ruleset field_steps = (base64_one, refused_text, length-strict_base64, text_item, Lacks_not, left_none, none_after, append-nil)

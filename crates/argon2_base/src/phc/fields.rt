@@ -1,4 +1,5 @@
 //! The fields of a PHC text, read one by one.
+#![tactic(auto, using(crate::proofs::phc_lemmas::PhcTextLemmas::field_steps))]
 
 ghost use Rattle.std.specs.Prelude.{◌≡◌, ◌<◌, ◌^◌, ◌++◌, ◌∷◌, ℕ, List, Option, IfOk, IfErr, IfSome, IsSome, IsOkAnd, IsTrue};
 ghost use Rattle.argon2_base.specs.Texts.{strict_base64};
@@ -71,7 +72,6 @@ pub(super) fn params_field(left: Option<&str>) -> Result<(ParamsString, Option<&
 }
 
 // The bytes, given in strict Base64, if anything is left, and what is left.
-#[tactic(auto, using(crate::proofs::phc_lemmas::PhcTextLemmas::field_steps))]
 fn bytes_field<const LOW: usize, const HIGH: usize>(
     left: Option<&str>,
 ) -> Result<(Option<TextBytes<LOW, HIGH>>, Option<&str>)>

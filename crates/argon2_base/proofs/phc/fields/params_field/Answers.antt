@@ -1,4 +1,4 @@
-use Rattle.argon2_base.proofs.Imports.{sym, ◌∙◌, ap, fields_left}
+use Rattle.argon2_base.proofs.Imports.{◌∙◌, sym, ap, arith, fields_left}
 use Rattle.argon2_base.proofs.phc_lemmas.Separators.{Lacks_not}
 use Rattle.argon2_base.proofs.phc_lemmas.PhcTextLemmas.{no_list_read, list_read}
 use Rattle.argon2_base.proofs.phc.fields.params_field.Goals as goal
@@ -14,13 +14,11 @@ returns-in_default-read-clause-only c = λ ps rest good k e.
     let pair = c.in-Some-cut._pair in
     let r = list_read _ _ rest ps (pair.0.now, pair.1.now) c.in-Some-cut.ensures.0 k
     (sym (ap fields_left c.in-Some.is ∙ c.first_field.ensures) ∙ e) in
-    let x = c.in_default-read.ensures.only ps (good, r.0) in
-    cc
+    grind arith
 
 pub returns-clause-only : goal.returns-clause-only
 returns-clause-only c = λ ps rest good k e.
     let pair = c.in-Some-cut._pair in
     let r = list_read _ _ rest ps (pair.0.now, pair.1.now) c.in-Some-cut.ensures.0 k
     (sym (ap fields_left c.in-Some.is ∙ c.first_field.ensures) ∙ e) in
-    let x = c.in-Ok.ensures.only ps (good, r.0) in
-    (cc, r.1)
+    grind arith
