@@ -1,7 +1,7 @@
 -- The words that the proofs of this crate use.
-pub use Rattle.std.proofs.Common.{All, Bool, Err, List, None, Ok, Option, Result, Some, T, [], add-one, add-zero, ap, ap₂, arith, bit_and, codes, drop, false, if◌then◌else◌, inl, inr}
-pub use Rattle.std.proofs.Common.{length, length-append, length-drop, lit<, ltb, map, min, nat_le, nat_lt, not, refl, replicate, rules, slice_index, slice_index_or, subst, suc, sym, take}
-pub use Rattle.std.proofs.Common.{true, zero, zero-add, ℕ, ◌%◌, ◌&&◌, ◌*◌, ◌++◌, ◌+◌, ◌-◌, ◌/◌, ◌<◌, ◌==◌, ◌^◌, ◌∙◌, ◌∷◌, ◌≡◌, ◌≢◌, ◌≤◌}
+pub use Rattle.std.proofs.Common.{All, Bool, Err, List, None, Ok, Option, Result, Some, T, [], add-one, add-zero, ap, ap₂, arith, codes, drop, false, if◌then◌else◌, inl, inr, length}
+pub use Rattle.std.proofs.Common.{length-append, length-drop, lit<, ltb, map, min, nat_le, nat_lt, not, refl, replicate, rules, slice_index, slice_index_or, subst, suc, sym, take, true}
+pub use Rattle.std.proofs.Common.{zero, zero-add, ℕ, ◌%◌, ◌&&◌, ◌*◌, ◌++◌, ◌+◌, ◌-◌, ◌/◌, ◌<◌, ◌==◌, ◌^◌, ◌∙◌, ◌∷◌, ◌≡◌, ◌≢◌, ◌≤◌}
 pub use Rattle.std.proofs.lemmas.Bool.{and_parts, cases_lt, eqb-false, le-leb, le-ltb, lt-ltb, ltb-true, ne_eqb}
 pub use Rattle.std.proofs.lemmas.Bool.Decides.{Decides-and, nat_tests}
 pub use Rattle.std.proofs.lemmas.Fmt.{IsAscii-decimal, decimal_by_steps, decimal_is_IsNumeral, parse-decimal}
@@ -12,7 +12,7 @@ pub use Rattle.std.proofs.lemmas.List.Elements.{All-from_get_or, All-from_recurs
 pub use Rattle.std.proofs.lemmas.List.Folds.{length-flat_map-take, list_all-append, list_all_at}
 pub use Rattle.std.proofs.lemmas.List.FromFn.{get_or-map-range_with_len, length-map-range_with_len}
 pub use Rattle.std.proofs.lemmas.List.Splits.{join_with_byte-slice_split, length-slice_split, slice_split_at, slice_split_none}
-pub use Rattle.std.proofs.lemmas.Nat.{and_mask, le_or_l, le_or_r, xor_comm}
+pub use Rattle.std.proofs.lemmas.Nat.{le_or_l, le_or_r, xor_comm}
 pub use Rattle.std.proofs.lemmas.Simd.{get_or-chunk, get_or-zip2, length-zip2, pick_l_whole}
 pub use Rattle.std.proofs.lemmas.Slice.{drop-append-drop, take-put_mid}
 pub use Rattle.std.proofs.lemmas.Slice.Eq.{bytes_eq-Decides}
@@ -30,13 +30,13 @@ pub use Rattle.std.specs.Str.{IsUtf8, bytes_eq}
 pub use Rattle.argon2_base.specs.Blake2b.{block_count, blocks, initial_state, sigma}
 unfoldable pub use Rattle.argon2_base.specs.Blake2b.{blake2b, compress, hash_blocks, round, rounds}
 pub use Rattle.argon2_base.specs.Block.{bytes_of}
-unfoldable pub use Rattle.argon2_base.specs.Block.{add_mul, by_columns, by_rows, column, gb, mix_columns, mix_diagonals, mixed, perm, row, words_of, xor_blocks, xor_rotate}
+unfoldable pub use Rattle.argon2_base.specs.Block.{by_columns, by_rows, column, gb, mix_columns, mix_diagonals, mixed, perm, row, words_of, xor_blocks}
 pub use Rattle.argon2_base.specs.ByteList.{IsBase64Cause, base64_length}
 pub use Rattle.argon2_base.specs.Hasher.{Hasher, blocks_before, held_len}
 unfoldable pub use Rattle.argon2_base.specs.Hasher.{Holds, hash_after, hash_on}
 pub use Rattle.argon2_base.specs.Lanes.{column_lanes, exchanged_left, exchanged_right, fours, group, half_word, lane, lane_word, pairs, vector_words, written}
 unfoldable pub use Rattle.argon2_base.specs.Lanes.{words_in_eights}
-pub use Rattle.argon2_base.specs.LongHash.{half, half_count, joined, pieces}
+pub use Rattle.argon2_base.specs.LongHash.{half, joined}
 unfoldable pub use Rattle.argon2_base.specs.LongHash.{chain, long_hash}
 pub use Rattle.argon2_base.specs.PhcFields.{NoItemFirst, NoVersionFirst, fields_left, fields_of, phc_of}
 pub use Rattle.argon2_base.specs.PhcText.{HasBytes, IsPhc, Lacks, Pair, ParamsText, Phc, PhcText, are_distinct, are_params, field, fields, fields_text, is_param, item, items_left, items_of}

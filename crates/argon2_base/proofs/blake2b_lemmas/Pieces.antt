@@ -1,7 +1,6 @@
 -- How the output of the hash of any length grows piece by piece.
-use Rattle.argon2_base.proofs.Imports.{◌≡◌, ℕ, zero, suc, ◌+◌, ◌-◌, ◌*◌, ◌<◌, ◌≤◌, List, [], ◌++◌, ◌^◌, length, take, drop, slice_index_or, refl, sym, arith, add-one, add-zero, length-drop}
-use Rattle.argon2_base.proofs.Imports.{le-ltb, lt-ltb, drop_all, take_at, take-put_mid, flat_map, range_with_len, blake2b, chain, half, half_count, pieces, joined, long_hash, Bor, w32}
-use Rattle.argon2_base.proofs.Imports.{to_le_bytes, length-flat_map-take, put_mid, post_of}
+use Rattle.argon2_base.proofs.Imports.{◌≡◌, ℕ, zero, suc, ◌+◌, ◌<◌, ◌≤◌, List, ◌++◌, ◌^◌, length, take, slice_index_or, refl, arith, add-one, add-zero, le-ltb, drop_all, take_at}
+use Rattle.argon2_base.proofs.Imports.{take-put_mid, flat_map, range_with_len, blake2b, chain, half, joined, long_hash, Bor, w32, to_le_bytes, length-flat_map-take}
 use Rattle.std.proofs.lemmas.List.{append-nil, append_assoc}
 
 -- the first i halves
@@ -38,3 +37,8 @@ input_fits inputs i n d lt e fits =
     let more : length (joined (take i inputs)) + length (slice_index_or inputs i d).now
     ≤ length (joined inputs) = length-flat_map-take (λ (r : Bor (List ℕ)). r.now) inputs i d lt in
     omega arith
+
+-- an output of at most 64 bytes is one digest
+pub long_hash_short : (n : ℕ) (m out : List ℕ) → n ≤ 64 → out ≡ blake2b n (to_le_bytes w32 n ++ m) → out ≡ long_hash n m
+unfolding long_hash
+long_hash_short n m out small eo = rw (le-ltb 64 n small, eo) refl

@@ -1,8 +1,7 @@
 -- Vectors of eight lanes, and what the steps of the mixing do in each lane.
-use Rattle.argon2_base.proofs.Imports.{◌≡◌, ℕ, zero, suc, ◌<◌, ◌+◌, ◌-◌, ◌*◌, ◌/◌, ◌%◌, ◌^◌, List, [], ◌∷◌, ◌++◌, length, slice_index, ◌==◌, if◌then◌else◌, bit_and, slice_index_or, map}
-use Rattle.argon2_base.proofs.Imports.{replicate, arith, refl, ap, subst, ◌∙◌, lit<, sym, ap₂, range_with_len, and_mask, ext_get_or, get_or-replicate, length-replicate, get_or-zip2}
-use Rattle.argon2_base.proofs.Imports.{length-zip2, get_or-map-range_with_len, length-map-range_with_len, zip2, pick_l, add_mul, gb, mix_columns, mix_diagonals, row, xor_rotate}
-use Rattle.argon2_base.proofs.Imports.{exchanged_left, exchanged_right, lane, lane_word, words_in_eights}
+use Rattle.argon2_base.proofs.Imports.{◌≡◌, ℕ, zero, suc, ◌<◌, ◌+◌, ◌*◌, ◌/◌, ◌%◌, List, [], ◌∷◌, length, slice_index, slice_index_or, map, arith, refl, ap, ◌∙◌, lit<, sym, ap₂}
+use Rattle.argon2_base.proofs.Imports.{range_with_len, ext_get_or, get_or-replicate, length-replicate, get_or-zip2, length-zip2, get_or-map-range_with_len, length-map-range_with_len, zip2}
+use Rattle.argon2_base.proofs.Imports.{row, lane, lane_word, words_in_eights}
 use Rattle.std.proofs.lemmas.Grind.{and_numeral}
 use Rattle.std.proofs.lemmas.List.{get_or_append_left, get_or-append_right}
 use Rattle.std.proofs.lemmas.Simd.{get_or-put_chunk_above, get_or-put_chunk_at, get_or-put_chunk_below}

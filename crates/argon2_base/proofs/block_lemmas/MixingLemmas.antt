@@ -1,8 +1,7 @@
 -- From the vectors of the kernel to the mixing that the standard defines.
-use Rattle.argon2_base.proofs.Imports.{same_number_lists, ◌≡◌, ℕ, Bool, true, false, ◌<◌, ◌≤◌, ◌+◌, ◌-◌, ◌*◌, ◌/◌, ◌%◌, List, [], inl, inr, length, map, slice_index, slice_index_or, ◌==◌}
-use Rattle.argon2_base.proofs.Imports.{if◌then◌else◌, arith, refl, sym, ap, ap₂, ◌∙◌, zero-add, cases_lt, ext_get_or, get_or-map-range_with_len, length-map-range_with_len, get_or-zip2}
-use Rattle.argon2_base.proofs.Imports.{length-zip2, range_with_len, by_columns, by_rows, column, perm, row, xor_blocks, column_lanes, half_word, lane, lane_word, pairs, vector_words}
-use Rattle.argon2_base.proofs.Imports.{written}
+use Rattle.argon2_base.proofs.Imports.{same_number_lists, ◌≡◌, ℕ, Bool, false, ◌<◌, ◌≤◌, ◌+◌, ◌-◌, ◌*◌, ◌/◌, ◌%◌, List, [], inl, inr, length, map, slice_index, slice_index_or, ◌==◌}
+use Rattle.argon2_base.proofs.Imports.{if◌then◌else◌, arith, refl, sym, ap, ap₂, ◌∙◌, zero-add, cases_lt, get_or-map-range_with_len, length-map-range_with_len, length-zip2, range_with_len}
+use Rattle.argon2_base.proofs.Imports.{by_columns, by_rows, column, perm, row, xor_blocks, column_lanes, half_word, lane, lane_word, pairs, vector_words, written}
 use Rattle.std.proofs.Common.{bit_xor}
 use Rattle.argon2_base.proofs.block_lemmas.LaneLemmas.{zip2_at, word_at, words_are}
 

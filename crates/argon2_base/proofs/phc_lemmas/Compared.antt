@@ -1,5 +1,5 @@
 -- Bytes that are compared by the bits in which they differ.
-use Rattle.argon2_base.proofs.Imports.{common_steps, ◌≡◌, ◌∙◌, ℕ, sym, arith, le_or_l, le_or_r}
+use Rattle.argon2_base.proofs.Imports.{common_steps, ◌≡◌, ℕ, arith, le_or_l, le_or_r}
 use Rattle.std.specs.Int.Bits.{bit_or, bit_xor, xor_zero_l, xor_zero_r, xor_self, xor_assoc}
 use Rattle.argon2_base.proofs.Imports.{nat_tests, same_number_lists, bytes_eq-Decides}
 
