@@ -1,7 +1,13 @@
 //! Byte lists of a fixed capacity. Identifiers, salts, outputs, key identifiers and associated data
 //! are such lists.
 
-ghost use Rattle.std.specs.Prelude.{◌≡◌, ◌≤◌, ◌-◌, drop, length, replicate};
+ghost use Rattle.std.specs.Prelude.{◌≡◌, ◌<◌, ◌≤◌, ◌-◌, Some, MatchOption, drop, length, nat_eq, refl, replicate};
+ghost use Rattle.std.specs.Cmp.{on_equiv, on_per, on_po, on_total, partial_equiv_from_equiv};
+ghost use Rattle.std.specs.Cmp.Lexicographic.{nat_list_cmp_total, nat_list_eq_equiv, pointwise, slice_cmp, texts_po, texts_ties};
+ghost use Rattle.std.specs.Cmp.Rules.{hashing};
+ghost use Rattle.std.specs.Hash as fed;
+ghost use Rattle.std.specs.Ordering.{nat_cmp};
+ghost use Rattle.std.proofs.Common.{rules};
 
 use crate::error::B64Error;
 use base64::engine::general_purpose::STANDARD_NO_PAD;
@@ -20,7 +26,6 @@ pub struct ByteList<const N: usize> {
 }
 
 impl<const N: usize> ByteList<N> {
-    ghost use Rattle.std.specs.Prelude.{◌≡◌, ◌≤◌, ◌<◌, length, MatchOption};
     ghost use Rattle.argon2_base.specs.ByteList.{IsListOfText, list_bytes};
 
     /// The list of these bytes, if they fit.
@@ -70,9 +75,6 @@ impl<const N: usize> fmt::Debug for ByteList<N> {
 }
 
 impl<const N: usize> PartialEq for ByteList<N> {
-    ghost use Rattle.std.specs.Prelude.{nat_eq};
-    ghost use Rattle.std.specs.Cmp.{on_per, partial_equiv_from_equiv};
-    ghost use Rattle.std.specs.Cmp.Lexicographic.{pointwise, nat_list_eq_equiv};
     ghost use Rattle.argon2_base.specs.ByteList.{list_bytes};
 
     ghost eq = { λ a b. pointwise nat_eq (list_bytes a) (list_bytes b) };
@@ -85,18 +87,12 @@ impl<const N: usize> PartialEq for ByteList<N> {
 }
 
 impl<const N: usize> Eq for ByteList<N> {
-    ghost use Rattle.std.specs.Cmp.{on_equiv};
-    ghost use Rattle.std.specs.Cmp.Lexicographic.{nat_list_eq_equiv};
     ghost use Rattle.argon2_base.specs.ByteList.{list_bytes};
 
     ghost laws = { on_equiv list_bytes nat_list_eq_equiv };
 }
 
 impl<const N: usize> PartialOrd for ByteList<N> {
-    ghost use Rattle.std.specs.Prelude.{Some};
-    ghost use Rattle.std.specs.Ordering.{nat_cmp};
-    ghost use Rattle.std.specs.Cmp.{on_po};
-    ghost use Rattle.std.specs.Cmp.Lexicographic.{slice_cmp, texts_po};
     ghost use Rattle.argon2_base.specs.ByteList.{list_bytes};
 
     ghost partial_cmp = { λ a b. Some (slice_cmp nat_cmp (list_bytes a) (list_bytes b)) };
@@ -109,10 +105,6 @@ impl<const N: usize> PartialOrd for ByteList<N> {
 }
 
 impl<const N: usize> Ord for ByteList<N> {
-    ghost use Rattle.std.specs.Prelude.{refl};
-    ghost use Rattle.std.specs.Ordering.{nat_cmp};
-    ghost use Rattle.std.specs.Cmp.{on_total};
-    ghost use Rattle.std.specs.Cmp.Lexicographic.{slice_cmp, nat_list_cmp_total, texts_ties};
     ghost use Rattle.argon2_base.specs.ByteList.{list_bytes};
 
     ghost cmp = { λ a b. slice_cmp nat_cmp (list_bytes a) (list_bytes b) };
@@ -129,9 +121,6 @@ impl<const N: usize> Ord for ByteList<N> {
 }
 
 impl<const N: usize> Hash for ByteList<N> {
-    ghost use Rattle.std.specs.Cmp.Rules.{hashing};
-    ghost use Rattle.std.specs.Hash as fed;
-    ghost use Rattle.std.proofs.Common.{rules};
     ghost use Rattle.argon2_base.specs.ByteList.{list_bytes};
 
     ghost hash_input = { λ list. fed.slice fed.u8 (list_bytes list) };

@@ -1,9 +1,11 @@
 //! Whole PHC texts.
 
-ghost use Rattle.std.specs.Prelude.{◌≡◌, ◌<◌, ◌≤◌, ◌+◌, ◌++◌, ◌∷◌, length};
+ghost use Rattle.std.specs.Prelude.{◌≡◌, ◌↔◌, ◌<◌, ◌≤◌, ◌+◌, ◌++◌, ◌∷◌, Some, IfOk, IfErr, IsOkAnd, IsTrue, MatchResult, length};
+ghost use Rattle.std.specs.Cmp.{on_equiv, on_per, partial_equiv_from_equiv};
 ghost use Rattle.std.proofs.Props.{props};
 ghost use Rattle.arrayvec.specs.ArrayString.{array_string_len};
-ghost use Rattle.argon2_base.specs.PhcText.{IsPhc, phc_with, field, fields_text, list_field, version_text};
+ghost use Rattle.argon2_base.specs.PhcText.{IsPhc, Phc, PhcText, phc_with, field, fields_text, list_field, phc_eq, phc_eq_equiv, version_text};
+ghost use Rattle.argon2_base.specs.declared.error.password_hash.Error.TheVariants.{EncodingInvalid};
 
 use super::bytes::{Output, Salt};
 use super::fields::{first_field, params_field, salt_and_hash, version_field};
@@ -36,10 +38,7 @@ pub struct PasswordHash {
 }
 
 impl PasswordHash {
-    ghost use Rattle.std.specs.Prelude.{◌≡◌, IfOk, IfErr, IsOkAnd};
     ghost use Rattle.argon2_base.specs.PhcFields.{phc_of};
-    ghost use Rattle.argon2_base.specs.PhcText.{Phc, PhcText};
-    ghost use Rattle.argon2_base.specs.declared.error.password_hash.Error.TheVariants.{EncodingInvalid};
 
     /// What a PHC text says, or `EncodingInvalid` if it is outside the grammar.
     pub fn new(text: &str) -> Result<PasswordHash>
@@ -80,10 +79,7 @@ impl PasswordHash {
 
 /// Reads a text as [`PasswordHash::new`] does.
 impl FromStr for PasswordHash {
-    ghost use Rattle.std.specs.Prelude.{◌≡◌, IsOkAnd, MatchResult};
     ghost use Rattle.argon2_base.specs.PhcFields.{phc_of};
-    ghost use Rattle.argon2_base.specs.PhcText.{Phc, PhcText};
-    ghost use Rattle.argon2_base.specs.declared.error.password_hash.Error.TheVariants.{EncodingInvalid};
 
     type Err = Error;
 
@@ -98,10 +94,7 @@ impl FromStr for PasswordHash {
 
 /// Two are equal if they say the same.
 impl PartialEq for PasswordHash {
-    ghost use Rattle.std.specs.Prelude.{◌≡◌, ◌↔◌, IsTrue};
-    ghost use Rattle.std.specs.Cmp.{on_per, partial_equiv_from_equiv};
     ghost use Rattle.argon2_base.specs.PhcFields.{phc_of};
-    ghost use Rattle.argon2_base.specs.PhcText.{phc_eq, phc_eq_equiv};
 
     ghost eq = { λ a b. phc_eq (phc_of a) (phc_of b) };
 
@@ -120,15 +113,12 @@ impl PartialEq for PasswordHash {
 }
 
 impl Eq for PasswordHash {
-    ghost use Rattle.std.specs.Cmp.{on_equiv};
     ghost use Rattle.argon2_base.specs.PhcFields.{phc_of};
-    ghost use Rattle.argon2_base.specs.PhcText.{phc_eq_equiv};
 
     ghost laws = { on_equiv phc_of phc_eq_equiv };
 }
 
 impl fmt::Display for PasswordHash {
-    ghost use Rattle.std.specs.Prelude.{Some};
     ghost use Rattle.argon2_base.specs.PhcFields.{text_of};
 
     ghost output = { λ h. Some (text_of h) };

@@ -1,9 +1,13 @@
 //! Identifiers of algorithms, and names of parameters.
 
-ghost use Rattle.std.specs.Prelude.{◌≡◌, IsTrue};
+ghost use Rattle.std.specs.Prelude.{◌≡◌, IsTrue, false, Some, IfOk, MatchResult};
+ghost use Rattle.std.specs.Cmp.Rules.{hashing};
+ghost use Rattle.std.specs.Hash as fed;
+ghost use Rattle.std.proofs.Common.{rules};
 ghost use Rattle.std.specs.List.{list_all};
 ghost use Rattle.argon2_base.specs.ByteList.{list_bytes};
 ghost use Rattle.argon2_base.specs.Texts.{is_name, is_name_char};
+ghost use Rattle.argon2_base.specs.declared.error.password_hash.Error.TheVariants.{EncodingInvalid};
 
 use crate::byte_list::ByteList;
 use crate::error::password_hash::{Error, Result};
@@ -63,10 +67,7 @@ pub(super) fn is_name_text(text: &str) -> bool
 }
 
 impl Ident {
-    ghost use Rattle.std.specs.Prelude.{◌≡◌, IsTrue, false, IfOk, MatchResult};
     ghost use Rattle.argon2_base.specs.PhcText.{ident_text};
-    ghost use Rattle.argon2_base.specs.Texts.{is_name};
-    ghost use Rattle.argon2_base.specs.declared.error.password_hash.Error.TheVariants.{EncodingInvalid};
 
     /// The identifier with this text, or `EncodingInvalid` if it is none.
     pub fn new(text: &str) -> Result<Ident>
@@ -104,7 +105,6 @@ impl AsStr for Ident {
 }
 
 impl fmt::Display for Ident {
-    ghost use Rattle.std.specs.Prelude.{Some};
     ghost use Rattle.argon2_base.specs.PhcText.{ident_text};
 
     ghost output = { λ i. Some (ident_text i) };
@@ -121,10 +121,7 @@ impl fmt::Debug for Ident {
 }
 
 impl FromStr for Ident {
-    ghost use Rattle.std.specs.Prelude.{◌≡◌, IsTrue, false, MatchResult};
     ghost use Rattle.argon2_base.specs.PhcText.{ident_text};
-    ghost use Rattle.argon2_base.specs.Texts.{is_name};
-    ghost use Rattle.argon2_base.specs.declared.error.password_hash.Error.TheVariants.{EncodingInvalid};
 
     type Err = Error;
 
@@ -138,9 +135,6 @@ impl FromStr for Ident {
 }
 
 impl Hash for Ident {
-    ghost use Rattle.std.specs.Cmp.Rules.{hashing};
-    ghost use Rattle.std.specs.Hash as fed;
-    ghost use Rattle.std.proofs.Common.{rules};
     ghost use Rattle.argon2_base.specs.PhcText.{ident_text};
 
     ghost hash_input = { λ i. fed.str (ident_text i) };
