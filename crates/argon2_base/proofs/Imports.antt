@@ -1,8 +1,8 @@
 -- The words that the proofs of this crate use.
 pub use Rattle.std.proofs.Common.{All, Bool, Err, List, None, Ok, Option, Result, Some, T, [], add-one, add-zero, ap, ap₂, arith, codes, drop, false, if◌then◌else◌, inl, inr, length}
-pub use Rattle.std.proofs.Common.{length-append, length-drop, lit<, ltb, map, min, nat_le, nat_lt, not, refl, replicate, rules, slice_index, slice_index_or, subst, suc, sym, take, true}
-pub use Rattle.std.proofs.Common.{zero, zero-add, ℕ, ◌%◌, ◌&&◌, ◌*◌, ◌++◌, ◌+◌, ◌-◌, ◌/◌, ◌<◌, ◌==◌, ◌^◌, ◌∙◌, ◌∷◌, ◌≡◌, ◌≢◌, ◌≤◌}
-pub use Rattle.std.proofs.lemmas.Bool.{and_parts, cases_lt, eqb-false, le-leb, le-ltb, lt-ltb, ltb-true, ne_eqb}
+pub use Rattle.std.proofs.Common.{length-append, length-drop, lit<, ltb, map, min, nat_le, nat_lt, not, refl, replicate, rules, slice_index, slice_index_or, suc, sym, take, true, zero}
+pub use Rattle.std.proofs.Common.{zero-add, ℕ, ◌%◌, ◌&&◌, ◌*◌, ◌++◌, ◌+◌, ◌-◌, ◌/◌, ◌<◌, ◌==◌, ◌^◌, ◌∙◌, ◌∷◌, ◌≡◌, ◌≢◌, ◌≤◌}
+pub use Rattle.std.proofs.lemmas.Bool.{and_parts, cases_lt, eqb-false, le-leb, le-ltb, lt-ltb, ne_eqb}
 pub use Rattle.std.proofs.lemmas.Bool.Decides.{Decides-and, nat_tests}
 pub use Rattle.std.proofs.lemmas.Fmt.{IsAscii-decimal, decimal_by_steps, decimal_is_IsNumeral, parse-decimal}
 pub use Rattle.std.proofs.lemmas.Grind.{common_steps, same_number_lists}

@@ -1,8 +1,7 @@
 -- The engine without padding reads and writes strict Base64, and nothing else.
 use Rattle.argon2_base.proofs.Imports.{nat_tests, common_steps, ◌≡◌, ◌≢◌, ℕ, zero, suc, ◌+◌, ◌*◌, ◌/◌, ◌<◌, ◌≤◌, Bool, true, ◌&&◌, nat_le, nat_lt, List, [], ◌∷◌, ◌++◌, length, take, drop}
-use Rattle.argon2_base.proofs.Imports.{Ok, Err, refl, sym, ◌∙◌, ap, arith, Result, Option, Some, None, and_parts, le-leb, lt-ltb, ltb-true, IsUtf8-from_ascii, list_all, IsUtf8}
-use Rattle.argon2_base.proofs.Imports.{standard_no_pad, encode_symbols, decode_of, decoded_of, encode_of, encoded_size_of, DecodeError, alphabet, strict_base64, short_bytes, IsBytes}
-use Rattle.argon2_base.proofs.Imports.{base64_length, IsBase64Cause}
+use Rattle.argon2_base.proofs.Imports.{Ok, Err, refl, sym, ◌∙◌, ap, arith, Result, Option, Some, None, le-leb, lt-ltb, IsUtf8-from_ascii, list_all, IsUtf8, standard_no_pad, encode_symbols}
+use Rattle.argon2_base.proofs.Imports.{decode_of, decoded_of, encode_of, encoded_size_of, DecodeError, alphabet, strict_base64, short_bytes, IsBytes, base64_length, IsBase64Cause}
 use Rattle.std.proofs.lemmas.List.{append-nil}
 use Rattle.base64.specs.declared.encode.EncodeSliceError.{EncodeSliceError}
 use Rattle.base64.specs.declared.encode.EncodeSliceError.TheVariants.{OutputSliceTooSmall}
@@ -40,8 +39,8 @@ bytes_pass (x ∷ b) h = rw (lt-ltb x 256 (h 0)) (bytes_pass b (λ i. h (suc i))
 -- what passes is bytes
 passing_bytes : (b : List ℕ) → list_all (λ x. nat_lt x 256) b ≡ true → IsBytes b
 passing_bytes [] h i = omega arith
-passing_bytes (x ∷ b) h zero = ltb-true x 256 (and_parts (nat_lt x 256) (list_all (λ x. nat_lt x 256) b) h).0
-passing_bytes (x ∷ b) h (suc i) = passing_bytes b (and_parts (nat_lt x 256) (list_all (λ x. nat_lt x 256) b) h).1 i
+passing_bytes (x ∷ b) h zero = grind (arith, nat_tests, h)
+passing_bytes (x ∷ b) h (suc i) = grind (arith, nat_tests, passing_bytes b)
 
 abbrev passes : ℕ → List ℕ → Bool
 passes most b = nat_le (length b) most && list_all (λ x. nat_lt x 256) b

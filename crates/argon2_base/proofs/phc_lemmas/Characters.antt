@@ -6,7 +6,7 @@ use Rattle.argon2_base.proofs.Imports.{IsUtf8-from_ascii, IsAscii-from_all, is_n
 pub tests_give : (p : ℕ → Bool) (P : ℕ → Type 0) (gives : (c : ℕ) → p c ≡ true → P c) (s : List ℕ)
     → list_all p s ≡ true → AllByRecursion P s
 tests_give p P gives [] h = tt
-tests_give p P gives (x ∷ s) h = let b = and_parts (p x) (list_all p s) h in (gives x b.0, tests_give p P gives s b.1)
+tests_give p P gives (x ∷ s) h = grind (arith, nat_tests, gives x, tests_give p P gives s)
 
 -- the characters of a name
 pub name_chars : (s : List ℕ) → is_name s ≡ true → list_all is_name_char s ≡ true

@@ -1,8 +1,8 @@
 -- The fields of a text, and the text of the fields.
-use Rattle.argon2_base.proofs.Imports.{◌≡◌, ◌≢◌, ℕ, ◌<◌, ◌^◌, true, false, List, [], ◌∷◌, ◌++◌, length, refl, sym, ap, ◌∙◌, subst, arith, Option, Some, None, codes, ◌==◌, ◌+◌, drop}
-use Rattle.argon2_base.proofs.Imports.{and_parts, IfSome, IsSome, IsNone, is_some, Bor, join_with_byte-slice_split, length-slice_split, list_all, flat_map, AllByRecursion, join_with_byte}
-use Rattle.argon2_base.proofs.Imports.{decimal, IsBytes, is_value_char, strict_base64, HasBytes, IsPhc, Pair, Phc, PhcText, are_params, field, fields, is_param, item, list_field}
-use Rattle.argon2_base.proofs.Imports.{params_text, phc_text, version_text, fields_of, fields_left, NoVersionFirst, NoItemFirst}
+use Rattle.argon2_base.proofs.Imports.{◌≡◌, ◌≢◌, ℕ, ◌<◌, ◌^◌, true, false, List, [], ◌∷◌, ◌++◌, length, refl, sym, ap, ◌∙◌, arith, Option, Some, None, codes, ◌==◌, ◌+◌, drop, and_parts}
+use Rattle.argon2_base.proofs.Imports.{IfSome, IsSome, IsNone, is_some, Bor, join_with_byte-slice_split, length-slice_split, list_all, flat_map, AllByRecursion, join_with_byte, decimal}
+use Rattle.argon2_base.proofs.Imports.{IsBytes, is_value_char, strict_base64, HasBytes, IsPhc, Pair, Phc, PhcText, are_params, field, fields, is_param, item, list_field, params_text}
+use Rattle.argon2_base.proofs.Imports.{phc_text, version_text, fields_of, fields_left, NoVersionFirst, NoItemFirst}
 use Rattle.std.proofs.Common.{append_assoc}
 use Rattle.std.proofs.lemmas.List.{append-nil}
 use Rattle.std.specs.Str.Pattern.{FindsCharPrefix}
@@ -75,7 +75,7 @@ text_item p (q ∷ ps) = (p.1 ++ 44 ∷ params_text (q ∷ ps), append_assoc p.0
 
 -- strict Base64 is no item
 base64_no_item : (b : List ℕ) (p : Pair) → IsBytes b → strict_base64 b ≡ item p → ⊥
-base64_no_item b p bytes e = Lacks_not 61 p.0 p.1 (subst (Lacks 61) e (base64_lacks 61 refl b bytes))
+base64_no_item b p bytes e = grind (arith, base64_lacks 61 refl b, Lacks_not 61 p.0 p.1)
 
 -- a salt, or a hash in its place, is no item
 bytes_no_item : (o r : Option (List ℕ)) → IfSome o (HasBytes 8 48) → IfSome r (HasBytes 4 64)

@@ -24,9 +24,7 @@ item_utf8 p h = grind (arith, IsUtf8-append, name_utf8, param_name, behind, valu
 items_utf8 : (p : Pair) (ps : List Pair) → list_all is_param (p ∷ ps) ≡ true
     → IsUtf8 (params_text (p ∷ ps))
 items_utf8 p [] h = item_utf8 p (and_parts _ true h).0
-items_utf8 p (q ∷ ps) h =
-    let k = and_parts (is_param p) _ h in
-    IsUtf8-append (item p) _ (item_utf8 p k.0) (behind tt (items_utf8 q ps k.1))
+items_utf8 p (q ∷ ps) h = grind (arith, item_utf8 p, items_utf8 q ps, behind, IsUtf8-append (item p))
 
 -- a field, if there is one, in front of fields
 field_utf8 : {X : Type 0} (spell : X → List ℕ) (o : Option X) (fs : List (List ℕ))

@@ -1,6 +1,6 @@
 //! Salts and outputs, and the strict Base64 of bytes.
 
-ghost use Rattle.std.specs.Prelude.{◌≡◌, ◌<◌, ◌≤◌, ◌*◌, Some, IfOk, MatchResult, length, nat_eq};
+ghost use Rattle.std.specs.Prelude.{◌≡◌, ℕ, List, ◌<◌, ◌≤◌, ◌*◌, Some, IfOk, MatchResult, length, nat_eq};
 ghost use Rattle.std.specs.Cmp.{partial_equiv_from_equiv};
 ghost use Rattle.std.specs.Cmp.Lexicographic.{pointwise, nat_list_eq_equiv};
 ghost use Rattle.argon2_base.specs.ByteList.{list_bytes};
@@ -24,10 +24,6 @@ pub struct TextBytes<const LOW: usize, const HIGH: usize> {
 }
 
 impl<const LOW: usize, const HIGH: usize> Model for TextBytes<LOW, HIGH> {
-    ghost use Rattle.std.specs.Prelude.{ℕ, List};
-    ghost use Rattle.argon2_base.specs.ByteList.{list_bytes};
-    ghost use Rattle.argon2_base.specs.PhcText.{HasBytes};
-
     ghost Value = { List ℕ };
 
     ghost view = { λ s. list_bytes s.bytes };

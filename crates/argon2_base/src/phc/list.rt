@@ -1,12 +1,13 @@
 //! Parameter lists.
 #![tactic(auto, using(crate::proofs::phc_lemmas::ListSteps::list_steps))]
 
-ghost use Rattle.std.specs.Prelude.{◌≡◌, ◌↔◌, ◌<◌, ◌≤◌, ◌++◌, ◌∷◌, ◌&&◌, [], ℕ, List, false, Some, Ok, is_ok, IfOk, IfErr, IfSome, OnOk, OnErr, MatchResult, IsTrue, length, nat_le};
+ghost use Rattle.std.specs.Prelude.{◌≡◌, ◌↔◌, ◌<◌, ◌≤◌, ◌++◌, ◌∷◌, ◌&&◌, [], ℕ, List, false, Some, Ok, is_ok, map, IfOk, IfErr, IfSome, OnOk, OnErr, MatchResult, IsTrue, length, nat_le};
 ghost use Rattle.std.specs.Fmt.{decimal};
 ghost use Rattle.std.specs.List.{list_all};
 ghost use Rattle.std.specs.Cmp.{partial_equiv_from_equiv};
+ghost use Rattle.std.specs.Iterator.{YieldsFirstBy, item_count};
 ghost use Rattle.argon2_base.specs.Texts.{strict_base64};
-ghost use Rattle.argon2_base.specs.PhcText.{Pair, item, params_text, value_of, is_param, are_params, ParamsText, IsCut, pair_of, pairs_of, items_of, items_left, pairs_left, are_distinct, with_item, pairs_eq, pairs_eq_equiv};
+ghost use Rattle.argon2_base.specs.PhcText.{Pair, ident_text, item, params_text, value_of, is_param, are_params, ParamsText, IsCut, pair_of, pairs_of, items_of, items_left, pairs_left, are_distinct, with_item, pairs_eq, pairs_eq_equiv};
 ghost use Rattle.argon2_base.specs.declared.error.password_hash.Error.TheVariants.{ParamsInvalid};
 
 use super::bytes::base64_text;
@@ -28,9 +29,6 @@ pub struct ParamsString {
 }
 
 impl Model for ParamsString {
-    ghost use Rattle.std.specs.Prelude.{◌≡◌, ℕ, List, IsTrue};
-    ghost use Rattle.argon2_base.specs.PhcText.{pairs_of, are_params, params_text};
-
     ghost Value = { List (List ℕ × List ℕ) };
 
     ghost view = { λ s. pairs_of s.text.bytes };
@@ -189,10 +187,6 @@ pub struct Iter<'a> {
 }
 
 impl<'a> Model for Iter<'a> {
-    ghost use Rattle.std.specs.Prelude.{◌≡◌, ℕ, List, map, IsTrue};
-    ghost use Rattle.std.specs.List.{list_all};
-    ghost use Rattle.argon2_base.specs.PhcText.{pair_of, item, items_left, is_param};
-
     ghost Value = { List (List ℕ × List ℕ) };
 
     ghost view = { λ s. map pair_of (items_left s.rest) };
@@ -202,9 +196,6 @@ impl<'a> Model for Iter<'a> {
 }
 
 impl<'a> Iterator for Iter<'a> {
-    ghost use Rattle.std.specs.Iterator.{YieldsFirstBy, item_count};
-    ghost use Rattle.argon2_base.specs.PhcText.{ident_text};
-
     type Item = (Ident, Value<'a>);
 
     ghost next_gives = { YieldsFirstBy (λ p. (ident_text p.0, p.1)) (λ s. s) };

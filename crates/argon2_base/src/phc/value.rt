@@ -1,6 +1,6 @@
 //! Values of parameters, and the decimals among them.
 
-ghost use Rattle.std.specs.Prelude.{◌≡◌, ◌<◌, ◌+◌, ◌^◌, ◌++◌, ◌∷◌, [], ℕ, Some, Ok, IfSome, IfOk, IfErr, length};
+ghost use Rattle.std.specs.Prelude.{◌≡◌, ◌<◌, ◌+◌, ◌^◌, ◌++◌, ◌∷◌, [], ℕ, List, Some, Ok, IfSome, IfOk, IfErr, length};
 ghost use Rattle.std.specs.Fmt.{decimal};
 ghost use Rattle.std.specs.List.{list_all};
 ghost use Rattle.argon2_base.specs.Texts.{is_value, is_value_char};
@@ -17,8 +17,6 @@ pub struct Value<'a> {
 }
 
 impl<'a> Model for Value<'a> {
-    ghost use Rattle.std.specs.Prelude.{ℕ, List};
-
     ghost Value = { List ℕ };
 
     ghost view = { λ s. s.text.now };
