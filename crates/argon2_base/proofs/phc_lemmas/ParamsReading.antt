@@ -1,7 +1,7 @@
 -- Reading a list item by item.
-use Rattle.argon2_base.proofs.Imports.{◌≡◌, ℕ, ◌<◌, ◌≤◌, true, false, ◌&&◌, List, [], ◌∷◌, ◌++◌, length, map, refl, sym, ap, ◌∙◌, arith, nat_le, length-append, nat_tests, le-leb, and_parts}
-use Rattle.argon2_base.proofs.Imports.{list_all-append, join_with_byte-slice_split, list_all, join_with_byte, is_none, Pair, item, params_text, value_of, are_distinct, is_param, are_params}
-use Rattle.argon2_base.proofs.Imports.{ParamsText, pair_of, items_of, pairs_of}
+use Rattle.argon2_base.proofs.Imports.{◌≡◌, ℕ, ◌<◌, ◌≤◌, true, false, ◌&&◌, List, [], ◌∷◌, ◌++◌, length, map, refl, sym, ap, ◌∙◌, arith, nat_le, length-append, nat_tests, and_parts}
+use Rattle.argon2_base.proofs.Imports.{list_all-append, join_with_byte-slice_split, list_all, is_none, Pair, item, params_text, value_of, are_distinct, is_param, are_params, ParamsText}
+use Rattle.argon2_base.proofs.Imports.{pair_of, items_of, pairs_of}
 use Rattle.argon2_base.proofs.phc_lemmas.ParamsTextLemmas.{all_params, pairs_again, param_value}
 
 -- what a list's text says is the list
@@ -71,6 +71,5 @@ pub read_list : (text : List ℕ) → list_all is_param (pairs_of text) && are_d
 read_list [] good short = (refl, refl)
 read_list (c ∷ s) good short =
     let all = (and_parts (list_all is_param (pairs_of (c ∷ s))) _ good).0 in
-    let is : c ∷ s ≡ params_text (pairs_of (c ∷ s)) =
-    sym (ap (join_with_byte 44) (parts_again (items_of (c ∷ s)) all) ∙ join_with_byte-slice_split 44 (c ∷ s)) in
-    (rw (good, ← is) (le-leb _ _ short), is)
+    let joined = join_with_byte-slice_split 44 (c ∷ s) in
+    grind (arith, nat_tests, parts_again (items_of (c ∷ s)) all)

@@ -63,8 +63,8 @@ text_long p (q ∷ ps) = omega (arith, item_long p, length-append (item p) (44 �
 -- what a list's text says is the list
 pub pairs_again : (ps : List Pair) → list_all is_param ps ≡ true → pairs_of (params_text ps) ≡ ps
 pairs_again [] h = refl
-pairs_again (p ∷ ps) h = pairs_of_items _ (text_long p ps)
-    ∙ ap (map pair_of) (cut_joined 44 (item p) (map item ps) (items_lack (p ∷ ps) h)) ∙ map_again (p ∷ ps) h
+pairs_again (p ∷ ps) h =
+    grind (arith, pairs_of_items, text_long p ps, cut_joined 44 (item p) (map item ps), items_lack (p ∷ ps), map_again (p ∷ ps))
 
 -- ---- a list with one more
 

@@ -91,10 +91,8 @@ list_no_version : (ps : List Pair) (rest : List (List ℕ)) → are_params ps �
     → NoVersionFirst (list_field ps ++ rest)
 list_no_version [] rest h k d more e = k (codes "v", d) more e
 list_no_version (p ∷ ps) rest h k d more e =
-    let one = and_parts (is_param p) (list_all is_param ps) (all_params (p ∷ ps) h) in
     let t = text_item p ps in
-    let again = pair_again p.0 t.0 (name_lacks 61 refl p.0 (param_name p one.0)) in
-    grind arith
+    grind (arith, pair_again p.0 t.0, name_lacks 61 refl p.0, param_name p, all_params (p ∷ ps))
 
 -- behind the version there is no version
 pub no_version : (v : Phc) → IsPhc v → NoVersionFirst (from_params v)
