@@ -7,6 +7,13 @@ use Rattle.argon2_base.proofs.phc_lemmas.ParamsReading.{good_items, long_value, 
 use Rattle.argon2_base.proofs.phc_lemmas.ParamsTextLemmas.{all_params, are_params-more, more_again, pair_again, pair_of_name, refused_name, refused_param}
 use Rattle.argon2_base.proofs.phc_lemmas.Separators.{slice_split-lacks}
 
-pub ruleset list_steps = (all_params, pair_again, pair_of_name, parts_again, good_items, read_list, read_again, long_value, length-strict_base64,
-    are_params-more, more_again, refused_name, refused_param, slice_split-lacks, IsCharBoundary-after_ascii,
-    one_list, bytes_eq-Decides, pairs_eq-Decides)
+-- what a list's text says
+pub ruleset list_reads = (all_params, parts_again, good_items, read_list, read_again, one_list, bytes_eq-Decides, pairs_eq-Decides)
+
+-- a list with one parameter more
+pub ruleset list_grows = (are_params-more, more_again, refused_name, refused_param, long_value, length-strict_base64)
+
+-- where a text is cut
+pub ruleset list_cuts = (pair_again, pair_of_name, slice_split-lacks, IsCharBoundary-after_ascii)
+
+pub ruleset list_steps = (list_reads, list_grows, list_cuts)

@@ -145,6 +145,7 @@ fn mix(a: u64, b: u64, c: u64, d: u64, x: u64, y: u64) -> [u64; 4]
 
 // Each word of h with the two of v at its place in a half.
 #[inline(always)]
+#[tactic(auto, using(std::proofs::lemmas::Grind::same_number_lists))]
 fn xor_halves(h: &[u64; 8], v: &[u64; 16]) -> [u64; 8]
     ensures { result ≡ xor_halves h.now v.now }
 {

@@ -268,6 +268,7 @@ pub(super) fn right_half(x: u64x16) -> u64x8
 // Writes eight words from a place on, each xored with the word of r there, and if `xors` with the word
 // that it replaces.
 #[inline(always)]
+#[tactic(auto, using(crate::proofs::block_lemmas::LaneLemmas::lane_steps))]
 fn put(out: &mut [u64], at: usize, v: u64x8, r: &[u64; 128], xors: bool)
     requires { (at + 8 ≤ 128) × (length out.old ≡ 128) }
     ensures size { length out.new ≡ 128 }
