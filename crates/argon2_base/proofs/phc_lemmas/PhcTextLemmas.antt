@@ -30,7 +30,8 @@ decimal_lacks n small = lacks_by is_value_char 36 refl (decimal n) (decimal_char
 
 -- no field has a `$`
 fields_lack : (v : Phc) → IsPhc v → AllByRecursion (Lacks 36) (fields v)
-fields_lack v h = grind (arith, name_lacks 36 refl v.algorithm, all-append, decimal_lacks, base64_lacks 36 refl, params_text_lacks v.params, all_params v.params)
+fields_lack v h =
+    grind (arith, name_lacks 36 refl v.algorithm, all-append, decimal_lacks, base64_lacks 36 refl, params_text_lacks v.params, all_params v.params)
 
 -- ---- the fields joined
 
