@@ -1,6 +1,9 @@
 //! Key derivation.
 
-ghost use Rattle.std.specs.Prelude.{◌≡◌, ℕ, List, OnOk, OnErr, length};
+ghost use Rattle.std.specs.Prelude.{◌≡◌, ℕ, List, None, OnErr, OnOk, length};
+ghost use Rattle.argon2.specs.Argon2.{context_of, own_parameters};
+ghost use Rattle.argon2.specs.Refusals.{length_refusal};
+ghost use Rattle.argon2.specs.Rfc9106.{tag_of};
 
 use crate::context::Argon2;
 pub use argon2_base::error::kdf::{Error, Result};
@@ -34,11 +37,6 @@ pub trait Pbkdf: Kdf {}
 /// The key is the tag. Lengths are taken as by
 /// [`hash_password_into`](Argon2::hash_password_into), and so is the memory.
 impl Kdf for Argon2<'_> {
-    ghost use Rattle.std.specs.Prelude.{◌≡◌, None};
-    ghost use Rattle.argon2.specs.Argon2.{context_of, own_parameters};
-    ghost use Rattle.argon2.specs.Refusals.{length_refusal};
-    ghost use Rattle.argon2.specs.Rfc9106.{tag_of};
-
     ghost takes = { λ argon2 password salt key.
         length_refusal (own_parameters argon2).output_len key password salt ≡ None };
 

@@ -1,8 +1,8 @@
 //! What a hash depends on beside the password and the salt.
 
-ghost use Rattle.std.specs.Prelude.{◌≡◌, ◌+◌, ◌*◌, ◌^◌, ◌<◌, ◌&&◌, ◌==◌, length, nat_lt};
-ghost use Rattle.argon2.specs.Settings.{algorithm_number};
-ghost use Rattle.argon2.specs.Rfc9106.{IsValid, segment_length, lane_length, block_count};
+ghost use Rattle.std.specs.Prelude.{◌≡◌, ◌+◌, ◌*◌, ◌^◌, ◌<◌, ◌&&◌, ◌==◌, IsNone, None, length, nat_lt};
+ghost use Rattle.argon2.specs.Settings.{algorithm_number, first_fault, version_number};
+ghost use Rattle.argon2.specs.Rfc9106.{Context, IsValid, block_count, lane_length, segment_length, segment_length_for};
 ghost use Rattle.argon2.specs.Argon2.{context_of, context_under};
 ghost use Rattle.argon2.specs.Layout.{IsSize};
 
@@ -25,10 +25,6 @@ pub(super) struct Instance<'a> {
 }
 
 impl<'a> Model for Instance<'a> {
-    ghost use Rattle.std.specs.Prelude.{◌≡◌, ◌<◌, ◌*◌, ◌^◌, length, None, IsNone};
-    ghost use Rattle.argon2.specs.Settings.{algorithm_number, first_fault, version_number};
-    ghost use Rattle.argon2.specs.Rfc9106.{Context, segment_length_for};
-
     ghost Value = { Context };
 
     ghost view = { λ a. record {

@@ -10,8 +10,9 @@ ghost use Rattle.argon2_base.specs.LongHash.{long_hash};
 ghost use Rattle.argon2.specs.Rfc9106.{AreShort, block_count, first_block, lane_length, segment_length};
 ghost use Rattle.argon2.specs.Layout.{Memory, addresses_at};
 ghost use Rattle.argon2.specs.Segments.{AreLengths, AreParts, BeginsSlices, FillsSegment, IsPlaceFor, last_of_slice, slice_length};
-ghost use Rattle.argon2.specs.SegmentSteps.{column_of, IsStepAt};
+ghost use Rattle.argon2.specs.SegmentSteps.{IsStepAt, column_of};
 ghost use Rattle.argon2.specs.Steps.{step};
+ghost use Rattle.argon2.specs.Argon2.{context_of, context_under};
 
 use super::Argon2;
 use super::fill::Step;
@@ -33,13 +34,6 @@ pub struct Segment {
 }
 
 impl Argon2<'_> {
-    ghost use Rattle.std.specs.Prelude.{◌≡◌, ◌<◌, ◌≤◌, ◌^◌, length};
-    ghost use Rattle.argon2_base.specs.Block.{bytes_of};
-    ghost use Rattle.argon2_base.specs.LongHash.{long_hash};
-    ghost use Rattle.argon2.specs.Argon2.{context_of, context_under};
-    ghost use Rattle.argon2.specs.Rfc9106.{AreShort, first_block};
-    ghost use Rattle.argon2.specs.Segments.{AreLengths, BeginsSlices, FillsSegment, last_of_slice, slice_length};
-
     /// Writes columns 0 and 1 of each lane into the first slice, and no other block, for a tag of
     /// `out_len` bytes and under this associated data in place of the parameters' (RFC 9106,
     /// section 3.2, steps 3 and 4). The data, the password and the salt have at most 4294967295 bytes.

@@ -1,12 +1,14 @@
 //! Parameters as texts: printed as a parameter list, and read from one.
 
-ghost use Rattle.std.specs.Prelude.{◌≡◌, ◌≤◌, ◌++◌, IsTrue, Some, length, ok_or};
+ghost use Rattle.std.specs.Prelude.{◌≡◌, ◌≤◌, ◌++◌, IsTrue, None, Some, length, ok_or};
 ghost use Rattle.std.specs.Option.{option_map};
 ghost use Rattle.argon2_base.specs.Texts.{number_of};
-ghost use Rattle.argon2_base.specs.PhcText.{are_params};
+ghost use Rattle.argon2_base.specs.PhcText.{are_params, params_text};
 ghost use Rattle.argon2_base.specs.Error.{bad_param, outcome_of};
-ghost use Rattle.argon2.specs.Argon2.{own_bytes};
-ghost use Rattle.argon2.specs.ListedParameters.{AreReadAgain, bytes_item, parameter_items, short_bytes};
+ghost use Rattle.argon2_base.specs.PhcFields.{phc_of};
+ghost use Rattle.argon2.specs.Argon2.{own_bytes, parameters_of};
+ghost use Rattle.argon2.specs.ListedParameters.{AreReadAgain, IsListOf, IsTextAnswer, asked_of, bytes_item, found_of, item_taken, items_read, list_of, parameter_items, params_of};
+ghost use Rattle.argon2.specs.ListedParameters.{short_bytes};
 
 use super::short_bytes::ShortBytes;
 use super::{AssociatedData, KeyId, Params, ParamsBuilder};
@@ -53,9 +55,6 @@ fn add_bytes(list: &mut ParamsString, name: &str, bytes: &[u8])
 /// The list of the parameters, always Ok. Read again, it is the same parameters with any length of
 /// output.
 impl TryFrom<&Params> for ParamsString {
-    ghost use Rattle.argon2.specs.Argon2.{parameters_of};
-    ghost use Rattle.argon2.specs.ListedParameters.{IsListOf};
-
     type Error = Error;
 
     ghost try_from_gives = { λ params r. IsListOf (parameters_of params.now) r };
@@ -68,9 +67,6 @@ impl TryFrom<&Params> for ParamsString {
 
 /// Lists parameters that are given by value, as by reference.
 impl TryFrom<Params> for ParamsString {
-    ghost use Rattle.argon2.specs.Argon2.{parameters_of};
-    ghost use Rattle.argon2.specs.ListedParameters.{IsListOf};
-
     type Error = Error;
 
     ghost try_from_gives = { λ params r. IsListOf (parameters_of params) r };
@@ -83,11 +79,6 @@ impl TryFrom<Params> for ParamsString {
 /// `m=`, `t=` and `p=` with decimals, then `keyid=` and `data=` with Base64 if they are not empty,
 /// joined by `,`.
 impl fmt::Display for Params {
-    ghost use Rattle.std.specs.Prelude.{Some};
-    ghost use Rattle.argon2_base.specs.PhcText.{params_text};
-    ghost use Rattle.argon2.specs.ListedParameters.{list_of};
-    ghost use Rattle.argon2.specs.Argon2.{parameters_of};
-
     ghost output = { λ params. Some (params_text (list_of (parameters_of params))) };
 
     fn fmt<W: fmt::Write>(&self, f: &mut fmt::Formatter<W>) -> fmt::Result {
@@ -138,10 +129,6 @@ struct Found {
 }
 
 impl Found {
-    ghost use Rattle.std.specs.Prelude.{◌≡◌};
-    ghost use Rattle.argon2_base.specs.Error.{outcome_of};
-    ghost use Rattle.argon2.specs.ListedParameters.{found_of, item_taken, items_read};
-
     // What a list says.
     fn of(list: &ParamsString) -> Result<Found>
         ensures { outcome_of found_of result ≡ items_read list.now }
@@ -176,11 +163,6 @@ impl Found {
 }
 
 impl Params {
-    ghost use Rattle.std.specs.Prelude.{◌≡◌};
-    ghost use Rattle.argon2_base.specs.Error.{outcome_of};
-    ghost use Rattle.argon2.specs.ListedParameters.{params_of};
-    ghost use Rattle.argon2.specs.Argon2.{parameters_of};
-
     // The parameters of a list, with this output length.
     fn read(list: &ParamsString, output_len: Option<usize>) -> Result<Params>
         ensures { outcome_of parameters_of result ≡ params_of output_len list.now }
@@ -207,11 +189,6 @@ impl Params {
 /// `ParamsInvalid`. Then `ParamsInvalid` if `m`, `t` or `p` is missing, and then the fault of
 /// [`Params::new`].
 impl TryFrom<&ParamsString> for Params {
-    ghost use Rattle.std.specs.Prelude.{◌≡◌, None};
-    ghost use Rattle.argon2_base.specs.Error.{outcome_of};
-    ghost use Rattle.argon2.specs.ListedParameters.{params_of};
-    ghost use Rattle.argon2.specs.Argon2.{parameters_of};
-
     type Error = Error;
 
     ghost try_from_gives = { λ list r. outcome_of parameters_of r ≡ params_of None list.now };
@@ -224,12 +201,6 @@ impl TryFrom<&ParamsString> for Params {
 /// The parameters of a PHC text, read as from its list. Their output length is the length of the
 /// hash, if the text has one.
 impl TryFrom<&PasswordHash> for Params {
-    ghost use Rattle.argon2_base.specs.PhcFields.{phc_of};
-    ghost use Rattle.std.specs.Prelude.{◌≡◌};
-    ghost use Rattle.argon2_base.specs.Error.{outcome_of};
-    ghost use Rattle.argon2.specs.ListedParameters.{asked_of};
-    ghost use Rattle.argon2.specs.Argon2.{parameters_of};
-
     type Error = Error;
 
     ghost try_from_gives = { λ hash r. outcome_of parameters_of r ≡ asked_of (phc_of hash.now) };
@@ -243,8 +214,6 @@ impl TryFrom<&PasswordHash> for Params {
 /// The parameters of a list's text, read as from the list, or `ParamsInvalid` if the text is
 /// outside the grammar of lists.
 impl FromStr for Params {
-    ghost use Rattle.argon2.specs.ListedParameters.{IsTextAnswer};
-
     type Err = Error;
 
     ghost from_str_gives = { IsTextAnswer };

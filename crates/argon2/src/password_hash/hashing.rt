@@ -1,8 +1,13 @@
 //! Hashing under the settings of an `Argon2`.
 
-ghost use Rattle.std.specs.Prelude.{◌≡◌, option_copied};
+ghost use Rattle.std.specs.Prelude.{◌≡◌, ◌≤◌, Ok, length, option_copied};
 ghost use Rattle.argon2_base.specs.Error.{outcome_of};
-ghost use Rattle.argon2.specs.TextHashing.{algorithm_or_default, version_or_default};
+ghost use Rattle.argon2_base.specs.PhcFields.{phc_of};
+ghost use Rattle.argon2_base.specs.PhcText.{phc_text};
+ghost use Rattle.argon2.specs.TextHashing.{IsAskedAnswer, IsHashAnswer, IsTagAnswer, algorithm_or_default, settings_or_default, tag_length, target_of, version_or_default};
+ghost use Rattle.argon2.specs.TextHashing.{with_tag_length};
+ghost use Rattle.argon2.specs.Argon2.{parameters_of, secret_of, settings_of};
+ghost use Rattle.argon2.specs.StoredTexts.{Accepts, shown_settings};
 
 use super::{CustomizedPasswordHasher, Error, PasswordHasher, Result};
 use crate::algorithm::Algorithm;
@@ -14,10 +19,6 @@ use rand_core::Rng;
 use std::alloc::Global;
 
 impl Argon2<'_> {
-    ghost use Rattle.std.specs.Prelude.{◌≡◌, ◌≤◌, length};
-    ghost use Rattle.argon2.specs.Argon2.{settings_of};
-    ghost use Rattle.argon2.specs.TextHashing.{tag_length, IsTagAnswer};
-
     // How many bytes a hash has.
     fn tag_len(&self) -> usize
         ensures { result ≡ tag_length (settings_of self.now) }
@@ -43,13 +44,6 @@ impl Argon2<'_> {
 
 /// Hashes have the output length of the parameters, or 32 bytes if none is set.
 impl PasswordHasher<PasswordHash> for Argon2<'_> {
-    ghost use Rattle.std.specs.Prelude.{◌≡◌, Ok};
-    ghost use Rattle.argon2_base.specs.PhcFields.{phc_of};
-    ghost use Rattle.argon2_base.specs.PhcText.{phc_text};
-    ghost use Rattle.argon2.specs.StoredTexts.{Accepts, shown_settings};
-    ghost use Rattle.argon2.specs.Argon2.{secret_of, settings_of};
-    ghost use Rattle.argon2.specs.TextHashing.{target_of, with_tag_length, IsHashAnswer};
-
     ghost hash_gives = { λ argon2. IsHashAnswer (target_of argon2) };
 
     ghost accepts = { λ argon2 password hash.
@@ -110,12 +104,6 @@ fn asked_version(number: Option<u32>) -> Result<Version>
 }
 
 impl CustomizedPasswordHasher<PasswordHash> for Argon2<'_> {
-    ghost use Rattle.argon2_base.specs.PhcFields.{phc_of};
-    ghost use Rattle.argon2_base.specs.PhcText.{phc_text};
-    ghost use Rattle.argon2.specs.StoredTexts.{Accepts};
-    ghost use Rattle.argon2.specs.Argon2.{parameters_of, secret_of};
-    ghost use Rattle.argon2.specs.TextHashing.{settings_or_default, IsAskedAnswer};
-
     type Params = Params;
 
     ghost customized_gives = { λ argon2 name number params.

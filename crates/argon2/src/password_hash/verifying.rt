@@ -1,5 +1,13 @@
 //! Verifying passwords against stored hashes.
 
+ghost use Rattle.std.specs.Prelude.{◌≡◌, ◌⊎◌, MatchResult, Ok};
+ghost use Rattle.argon2_base.specs.PhcFields.{phc_of};
+ghost use Rattle.argon2_base.specs.PhcText.{Phc};
+ghost use Rattle.argon2_base.specs.declared.error.password_hash.Error.TheVariants.{OutOfMemory};
+ghost use Rattle.argon2.specs.ListedParameters.{asked_of};
+ghost use Rattle.argon2.specs.StoredTexts.{Accepts, AcceptsBy, IsVerifyAnswer, IsVerifyTextAnswer, stored_of, stored_value};
+ghost use Rattle.argon2.specs.Argon2.{parameters_of, secret_of};
+
 use super::{Error, PasswordVerifier, Result, Settings, Stored};
 use crate::context::Argon2;
 use crate::params::Params;
@@ -7,14 +15,6 @@ use argon2_base::phc::PasswordHash;
 use std::alloc::Global;
 
 impl Argon2<'_> {
-    ghost use Rattle.std.specs.Prelude.{◌≡◌, ◌⊎◌, Ok, MatchResult};
-    ghost use Rattle.argon2_base.specs.PhcFields.{phc_of};
-    ghost use Rattle.argon2_base.specs.PhcText.{Phc};
-    ghost use Rattle.argon2_base.specs.declared.error.password_hash.Error.TheVariants.{OutOfMemory};
-    ghost use Rattle.argon2.specs.ListedParameters.{asked_of};
-    ghost use Rattle.argon2.specs.StoredTexts.{AcceptsBy, IsVerifyAnswer, stored_of, stored_value};
-    ghost use Rattle.argon2.specs.Argon2.{parameters_of, secret_of};
-
     // Whether what a hash shows is the tag of the password, with this secret.
     pub(crate) fn verify_stored(
         &self,
@@ -61,10 +61,6 @@ impl Argon2<'_> {
 /// Hashes under the algorithm, the version and the parameters of the stored hash (no version
 /// means 0x10), and with this context's secret. Nothing else of this context is used.
 impl PasswordVerifier<&PasswordHash> for Argon2<'_> {
-    ghost use Rattle.argon2_base.specs.PhcFields.{phc_of};
-    ghost use Rattle.argon2.specs.StoredTexts.{AcceptsBy, IsVerifyAnswer};
-    ghost use Rattle.argon2.specs.Argon2.{secret_of};
-
     ghost verify_gives = { λ argon2 password hash.
         IsVerifyAnswer (secret_of argon2) password (phc_of hash.now) };
 
@@ -78,9 +74,6 @@ impl PasswordVerifier<&PasswordHash> for Argon2<'_> {
 
 /// Verifies against the value of a PHC text.
 impl PasswordVerifier<&str> for Argon2<'_> {
-    ghost use Rattle.argon2.specs.StoredTexts.{Accepts, IsVerifyTextAnswer};
-    ghost use Rattle.argon2.specs.Argon2.{secret_of};
-
     ghost verify_gives = { λ argon2 password text.
         IsVerifyTextAnswer (secret_of argon2) password text.now };
 
