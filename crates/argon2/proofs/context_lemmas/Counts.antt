@@ -61,11 +61,14 @@ module _ (ctx : Context) (sizes : Sizes ctx) where
       by_cases false true p = omega arith
       by_cases false false p = omega arith
 
-  -- the mixings of all passes are the formula's, if there is some pass
-  passes_calls-suc : (r : ℕ) → ctx.t_cost ≡ suc r → passes_calls ctx ctx.t_cost ≡ mixing_calls ctx
+  -- all passes' mixings are those of the formula
+  pub passes_calls-all : passes_calls ctx ctx.t_cost ≡ mixing_calls ctx
   unfolding mixing_calls address_calls
-  passes_calls-suc r t =
+  passes_calls-all =
       let two = sizes.two_columns in
+      let some = sizes.some_pass in
+      let r = ctx.t_cost - 1 in
+      let t : ctx.t_cost ≡ suc r = omega arith in
       let sum = passes_calls-sum r in
       let segments = ap (λ n. address_calls * n) (independent_segments-sum r t) in
       let eight : 8 ≤ lane_length ctx = omega arith in
@@ -75,20 +78,7 @@ module _ (ctx : Context) (sizes : Sizes ctx) where
 -- what grows at each number is at most what it is later
 grows : (f : ℕ → ℕ) → ((n : ℕ) → f n ≤ f (suc n)) → (k n : ℕ) → k ≤ n → f k ≤ f n
 grows f more k zero le = let e : k ≡ 0 = omega arith in omega (arith, ap f e)
-grows f more k (suc n) le = elim (cases_lt k (suc n)) [
-  | inl lt ↦ (let i = grows f more k n (omega arith) in let m = more n in omega arith)
-  | inr ge ↦ (let e : k ≡ suc n = omega arith in omega (arith, ap f e))
-]
-
--- a pass's first slices are not more than more of them
-slices_calls-le : (ctx : Context) (pass slice n : ℕ) → slice ≤ n → slices_calls ctx pass slice ≤ slices_calls ctx pass n
-unfolding slices_calls
-slices_calls-le ctx pass = grows (slices_calls ctx pass) (λ n. omega arith)
-
--- the first passes are not more than more of them
-passes_calls-le : (ctx : Context) (r n : ℕ) → r ≤ n → passes_calls ctx r ≤ passes_calls ctx n
-unfolding passes_calls
-passes_calls-le ctx = grows (passes_calls ctx) (λ n. omega arith)
+grows f more k (suc n) le = grind (arith, more n, grows f more k n)
 
 -- the count of all mixings is small
 mixing_calls-few : (ctx : Context) → Sizes ctx → mixing_calls ctx < 2 ^ 126
@@ -105,11 +95,6 @@ mixing_calls-few ctx sizes =
     let b : t * (p * (4 * s)) ≤ 2 ^ 32 * (p * (4 * s)) = mul-le-mul_right (p * (4 * s)) (let w = sizes.t_cost in omega arith) in
     omega (arith, sizes.in_memory, sizes.m_cost)
 
--- all passes' mixings are those of the formula
-pub passes_calls-all : (ctx : Context) → Sizes ctx → passes_calls ctx ctx.t_cost ≡ mixing_calls ctx
-passes_calls-all ctx sizes =
-    passes_calls-suc ctx sizes (ctx.t_cost - 1) (let some = sizes.some_pass in omega arith)
-
 -- the mixings before a segment are few
 pub calls_before-few : (ctx : Context) → Sizes ctx → (pass slice lane : ℕ) → pass < ctx.t_cost → slice < 4 → lane < ctx.p_cost
     → passes_calls ctx pass + slices_calls ctx pass slice + lane * segment_calls ctx pass slice < 2 ^ 126
@@ -117,6 +102,6 @@ unfolding passes_calls slices_calls
 calls_before-few ctx sizes pass slice lane t four l =
     let lanes : lane * segment_calls ctx pass slice ≤ ctx.p_cost * segment_calls ctx pass slice =
     mul-le-mul_right (segment_calls ctx pass slice) (omega arith) in
-    let slices = slices_calls-le ctx pass (suc slice) 4 (omega arith) in
-    let passes = passes_calls-le ctx (suc pass) ctx.t_cost (omega arith) in
+    let slices = grows (slices_calls ctx pass) (λ n. omega arith) (suc slice) 4 (omega arith) in
+    let passes = grows (passes_calls ctx) (λ n. omega arith) (suc pass) ctx.t_cost (omega arith) in
     omega (arith, passes_calls-all ctx sizes, mixing_calls-few ctx sizes)

@@ -27,11 +27,8 @@ module _ (ctx : Context) (sizes : Sizes ctx) (first : FirstColumns) (pass lane c
   step_reads r l c reads =
       let a = about l reads.in_lanes in
       let apart = rw (div-eq_of_lt-le (segment_length ctx) here.above here.below) at reads.apart in
-      let read : (c < column → c < done l) × (column ≤ c → done l ≤ c) = (grind arith, grind arith) in
-      elim reads.newest [
-        | inl n ↦ (h.new l c reads.in_lanes reads.in_columns (read.0 n.1) ∙ ap (λ p. block_of ctx first p l c) (sym n.0))
-        | inr n ↦ h.old r l c n.0 reads.in_lanes reads.in_columns (read.1 n.1)
-      ]
+      let newest = reads.newest in
+      grind (arith, h.new l c reads.in_lanes reads.in_columns, h.old r l c)
 
   -- a step's block is the recurrence's
   step_makes : made_block ctx (in_memory ctx memory) pass lane column ≡ block_of ctx first pass lane column
@@ -59,17 +56,10 @@ module _ (ctx : Context) (sizes : Sizes ctx) (first : FirstColumns) (pass lane c
       λ l c below apart. set_apart q l c lane column memory b below st.in_columns apart in
       record {
         size = length-set memory (lane * q + column) b ∙ h.size;
-        new = λ l c a below lt. elim (cases_eq l lane) [
-          | inl e ↦ (let o = own l e in elim (cases_eq c column) [
-            | inl f ↦ rw (e, f) (get_or-set_same memory (lane * q + column) b [] (omega arith) ∙ step_makes)
-            | inr f ↦ (kept l c below (λ _. f) ∙ h.new l c a below (omega arith))
-          ])
-          | inr e ↦ (let d = others l e in kept l c below (λ x. absurd (e x)) ∙ h.new l c a below (omega arith))
-        ];
-        old = λ r l c p a below le. elim (cases_eq l lane) [
-          | inl e ↦ (let o = own l e in kept l c below (λ _ y. omega arith) ∙ h.old r l c p a below (omega arith))
-          | inr e ↦ (let d = others l e in kept l c below (λ x. absurd (e x)) ∙ h.old r l c p a below (omega arith))
-        ];
+        new = λ l c a below lt.
+            let same = get_or-set_same memory (lane * q + column) b [] (omega arith) in
+            grind (arith, kept l c, h.new l c, own l, others l, step_makes);
+        old = λ r l c p a below le. grind (arith, kept l c, h.old r l c, own l, others l);
       }
 
 -- ---- a slice, by what is left of a schedule
@@ -86,20 +76,14 @@ run_fills : (ctx : Context) → Sizes ctx → (first : FirstColumns) (pass slice
 unfolding run
 run_fills ctx sizes first pass slice four [] memory m h = h
 run_fills ctx sizes first pass slice four (lane ∷ schedule) memory m h =
-    let s = segment_length ctx in
     let st = head_step ctx sizes pass slice lane schedule four m in
     let same = turns-same lane schedule in
-    let room : turns lane (lane ∷ schedule) ≤ turn_count ctx pass slice = m.few lane m.lanes.0 in
-    let most : turn_count ctx pass slice ≤ s = turn_count-le ctx pass slice in
-    let column = turn_column ctx slice (turns lane schedule) in
-    let now : done_before ctx slice (lane ∷ schedule) lane ≡ column = ap (λ n. (slice + 1) * s - n) same in
-    let then' : done_before ctx slice schedule lane ≡ suc column = omega arith in
-    run_fills ctx sizes first pass slice four schedule (step ctx memory pass lane column)
-    (MayRun-tail ctx pass slice lane schedule m)
-    (step_fills ctx sizes first pass lane column slice (done_before ctx slice (lane ∷ schedule)) memory st.0 st.1 now
-    (λ l below. let few : turns l (lane ∷ schedule) ≤ turn_count ctx pass slice = m.few l below in (omega arith, omega arith)) h
-    (done_before ctx slice schedule) then'
-    (λ l ne. ap (λ n. (slice + 1) * s - n) (sym (turns-other l lane schedule (λ e. ne (sym e))))))
+    let room = m.few lane m.lanes.0 in
+    let most = turn_count-le ctx pass slice in
+    run_fills ctx sizes first pass slice four schedule _ (MayRun-tail ctx pass slice lane schedule m)
+    (step_fills ctx sizes first pass lane _ slice (done_before ctx slice (lane ∷ schedule)) memory st.0 st.1 (omega arith)
+    (λ l below. let few = m.few l below in (omega arith, omega arith)) h (done_before ctx slice schedule) (omega arith)
+    (λ l ne. let other = turns-other l lane schedule (λ e. ne (sym e)) in omega arith))
 
 -- ---- slices and passes
 
@@ -117,15 +101,12 @@ slices_fill : (ctx : Context) → Sizes ctx
 unfolding run_slices
 slices_fill ctx sizes first schedules pass zero four is memory h = h
 slices_fill ctx sizes first schedules pass (suc slice) four is memory h =
-    let s = segment_length ctx in
     let before = run_slices ctx schedules pass slice memory in
-    let i : HasBlocksUpTo ctx first pass (λ _. columns_before ctx pass slice) before =
-    slices_fill ctx sizes first schedules pass slice (omega arith) is memory h in
+    let i = slices_fill ctx sizes first schedules pass slice (omega arith) is memory h in
     let schedule = schedules slice in
-    let it : IsSchedule ctx pass slice schedule = is slice (omega arith) in
-    let start : HasBlocksUpTo ctx first pass (done_before ctx slice schedule) before =
-    HasBlocksUpTo-like ctx first pass (λ _. columns_before ctx pass slice) (done_before ctx slice schedule) before
-    (λ l below. ap (λ n. (slice + 1) * s - n) (sym (it.turns l below))) i in
+    let it = is slice (omega arith) in
+    let start = HasBlocksUpTo-like ctx first pass (λ _. columns_before ctx pass slice) (done_before ctx slice schedule) before
+    (λ l below. ap (λ n. (slice + 1) * segment_length ctx - n) (sym (it.turns l below))) i in
     HasBlocksUpTo-like ctx first pass (done_before ctx slice []) (λ _. columns_before ctx pass (suc slice))
     (run ctx pass slice schedule before)
     (λ l below. let w = turn_count-later_slice ctx pass slice in omega arith)
@@ -171,11 +152,10 @@ filled_at_first ctx sizes first memory start =
 -- after the last pass the memory is the matrix
 pub filled_at_last : (ctx : Context) → Sizes ctx
     → (first : FirstColumns) (passes : ℕ) (memory : List (List ℕ)) → passes ≡ ctx.t_cost
-    → 0 < passes
     → HasBlocksUpTo ctx first passes (λ _. columns_before ctx passes 0) memory → memory ≡ matrix ctx first
 unfolding matrix
-filled_at_last ctx sizes first zero memory t some h = absurd (omega arith)
-filled_at_last ctx sizes first (suc r) memory t some h =
+filled_at_last ctx sizes first zero memory t h = absurd (let some = sizes.some_pass in omega arith)
+filled_at_last ctx sizes first (suc r) memory t h =
     let q = lane_length ctx in
     let two = sizes.two_columns in
     let w = turn_count-later_pass ctx r in
@@ -192,5 +172,5 @@ pub schedules_fill : (ctx : Context) → Sizes ctx → (first : FirstColumns) (s
     → (memory : List (List ℕ)) → Begins ctx first memory
     → run_passes ctx schedules ctx.t_cost memory ≡ matrix ctx first
 schedules_fill ctx sizes first schedules is memory start =
-    filled_at_last ctx sizes first ctx.t_cost _ refl sizes.some_pass
+    filled_at_last ctx sizes first ctx.t_cost _ refl
     (passes_fill ctx sizes first schedules ctx.t_cost is memory (filled_at_first ctx sizes first memory start))

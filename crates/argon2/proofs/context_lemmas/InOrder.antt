@@ -10,10 +10,8 @@ use Rattle.argon2.proofs.context_lemmas.Schedules.{turn_count-le}
 pub IsFilledUpTo-like : (ctx : Context) (first : FirstColumns) (pass : ℕ) (done done' : ℕ → ℕ) (memory : Memory)
     (old new : List ℕ) → ((l : ℕ) → l < ctx.p_cost → done l ≡ done' l)
     → IsFilledUpTo ctx first pass done memory old new → IsFilledUpTo ctx first pass done' memory old new
-IsFilledUpTo-like ctx first pass done done' memory old new same is = record {
-  blocks = HasBlocksUpTo-like ctx first pass done done' memory same is.blocks;
-  positions = λ size. HasPositionsUpTo-like ctx first pass done done' old new same (is.positions size);
-}
+IsFilledUpTo-like ctx first pass done done' memory old new same is =
+    grind (arith, HasBlocksUpTo-like, HasPositionsUpTo-like)
 
 -- before the first lane no lane has begun the slice
 pub in_order-first : (ctx : Context) (pass slice l : ℕ) → columns_before ctx pass slice ≡ in_order ctx pass slice 0 (columns_before ctx pass slice) l
@@ -63,10 +61,8 @@ filled_step ctx sizes first pass slice lane column memory old new t st here is =
 -- the first two columns are where pass 0 begins
 pub filled_first : (ctx : Context) → Sizes ctx → (first : FirstColumns) (memory : Memory) (positions : List ℕ)
     → Begins ctx first memory → IsFilledUpTo ctx first 0 (λ _. columns_before ctx 0 0) memory positions positions
-filled_first ctx sizes first memory positions begins = record {
-  blocks = filled_at_first ctx sizes first memory begins;
-  positions = first_positions ctx sizes first positions;
-}
+filled_first ctx sizes first memory positions begins =
+    record { blocks = filled_at_first ctx sizes first memory begins; positions = first_positions ctx sizes first positions }
 
 -- the end of a pass is the start of the next
 pub filled_next : (ctx : Context) (first : FirstColumns) (pass : ℕ) (memory : Memory) (old new : List ℕ)
@@ -84,5 +80,5 @@ pub filled_last : (ctx : Context) → Sizes ctx → (first : FirstColumns) (pass
     → IsFilledFrom ctx first memory old new
 filled_last ctx sizes first passes memory old new all is =
     let some = sizes.some_pass in
-    let matrix = filled_at_last ctx sizes first passes memory all (omega arith) is.blocks in
+    let matrix = filled_at_last ctx sizes first passes memory all is.blocks in
     grind arith

@@ -34,10 +34,6 @@ pub turns-append : (lane : ℕ) (xs ys : List ℕ)
     → turns lane (xs ++ ys) ≡ turns lane xs + turns lane ys
 turns-append lane xs ys = sum_by-append (λ y. (if y == lane then 1 else 0)) xs ys
 
--- a tail has no more turns
-turns-tail : (lane x : ℕ) (xs : List ℕ) → turns lane xs ≤ turns lane (x ∷ xs)
-turns-tail lane x xs = omega (arith, turns-cons lane x xs)
-
 -- ---- the step of a turn
 
 -- no lane has more turns than its segment has columns
@@ -54,18 +50,6 @@ turn_count-first ctx pass slice p e = grind (arith, nat_tests)
 abbrev pub turn_column : Context → ℕ → ℕ → ℕ
 turn_column ctx slice n = (slice + 1) * segment_length ctx - suc n
 
--- a turn is a step, in its slice
-turn_step : (ctx : Context) → Sizes ctx → (pass slice lane n : ℕ) → slice < 4 → lane < ctx.p_cost
-    → suc n ≤ turn_count ctx pass slice
-    → IsStep ctx pass lane (turn_column ctx slice n) × InSlice (segment_length ctx) (turn_column ctx slice n) slice
-turn_step ctx sizes pass slice lane n four below room =
-    let s = segment_length ctx in
-    let two : 2 ≤ s = sizes.two_columns in
-    let le = turn_count-le ctx pass slice in
-    let whole : (slice + 1) * s ≤ 4 * s = mul-le-mul_right s (omega arith) in
-    let more : 0 < slice → 1 * s ≤ slice * s = λ some. mul-le-mul_right s some in
-    (grind (arith, nat_tests), grind arith)
-
 -- ---- schedules, whole or what is left of them
 
 -- lanes in any order, none with too many turns
@@ -77,7 +61,7 @@ pub record MayRun (ctx : Context) (pass slice : ℕ) (schedule : List ℕ) : Typ
 pub MayRun-tail : (ctx : Context) (pass slice lane : ℕ) (schedule : List ℕ)
     → MayRun ctx pass slice (lane ∷ schedule) → MayRun ctx pass slice schedule
 MayRun-tail ctx pass slice lane schedule m =
-    record { lanes = m.lanes.1; few = λ l h. omega (arith, m.few l h, turns-tail l lane schedule) }
+    record { lanes = m.lanes.1; few = λ l h. omega (arith, m.few l h, turns-cons l lane schedule) }
 
 -- the first turn is a step
 pub head_step : (ctx : Context) → Sizes ctx → (pass slice lane : ℕ) (schedule : List ℕ) → slice < 4
@@ -85,8 +69,15 @@ pub head_step : (ctx : Context) → Sizes ctx → (pass slice lane : ℕ) (sched
     → IsStep ctx pass lane (turn_column ctx slice (turns lane schedule))
     × InSlice (segment_length ctx) (turn_column ctx slice (turns lane schedule)) slice
 head_step ctx sizes pass slice lane schedule four m =
-    turn_step ctx sizes pass slice lane (turns lane schedule) four m.lanes.0
-    (let a = m.few lane m.lanes.0 in let b = turns-same lane schedule in omega arith)
+    let s = segment_length ctx in
+    let two : 2 ≤ s = sizes.two_columns in
+    let le = turn_count-le ctx pass slice in
+    let few = m.few lane m.lanes.0 in
+    let here = m.lanes.0 in
+    let same = turns-same lane schedule in
+    let whole : (slice + 1) * s ≤ 4 * s = mul-le-mul_right s (omega arith) in
+    let more : 0 < slice → 1 * s ≤ slice * s = λ some. mul-le-mul_right s some in
+    (grind (arith, nat_tests), grind arith)
 
 -- a whole schedule may run
 pub MayRun-from : (ctx : Context) (pass slice : ℕ) (schedule : List ℕ)
@@ -108,12 +99,8 @@ step_of_other : (ctx : Context) (pass slice lane x d : ℕ) (memory memory' : Me
     → InSlice (segment_length ctx) d slice → SeenAlike ctx slice lane memory memory'
     → SeenAlike ctx slice lane (step ctx memory pass x d) memory'
 unfolding step
-step_of_other ctx pass slice lane x d memory memory' ne within here h = record {
-  size = length-set memory _ _ ∙ h.size;
-  size' = h.size';
-  same = λ l c a below far. set_apart (lane_length ctx) l c x d memory _ below within (λ p q. grind arith)
-      ∙ h.same l c a below far;
-}
+step_of_other ctx pass slice lane x d memory memory' ne within here h =
+    grind (arith, length-set memory (x * lane_length ctx + d), set_apart)
 
 -- and after the same step of the lane in both
 step_of_own : (ctx : Context) → Sizes ctx → (pass slice lane d : ℕ) (memory memory' : Memory) → IsStep ctx pass lane d
@@ -123,21 +110,11 @@ unfolding step in_memory
 step_of_own ctx sizes pass slice lane d memory memory' st here h =
     let q = lane_length ctx in
     let at = lane * q + d in
-    let size = h.size in
-    let size' = h.size' in
     let within = place_below ctx lane d st.in_lanes st.in_columns in
     let e = div-eq_of_lt-le (segment_length ctx) here.above here.below in
     let made = made_cong ctx sizes pass lane d st (in_memory ctx memory) (in_memory ctx memory')
     (λ r l c reads. h.same l c reads.in_lanes reads.in_columns (rw e at reads.apart)) in
-    record {
-      size = length-set memory _ _ ∙ h.size;
-      size' = length-set memory' _ _ ∙ h.size';
-      same = λ l c a below far. elim (cases_eq (l * q + c) at) [
-        | inl i ↦ rw i (get_or-set_same memory at _ [] (omega arith) ∙ made ∙ sym (get_or-set_same memory' at _ [] (omega arith)))
-        | inr ne ↦ (get_or-set_other memory at (l * q + c) _ [] ne ∙ h.same l c a below far
-            ∙ sym (get_or-set_other memory' at (l * q + c) _ [] ne))
-      ];
-    }
+    grind (arith, length-set memory at, length-set memory' at, get_or-set_same {A = List ℕ}, get_or-set_other {A = List ℕ})
 
 -- the last n turns of a lane alone
 alone : Context → ℕ → ℕ → ℕ → ℕ → Memory → Memory
@@ -151,16 +128,14 @@ run_alone : (ctx : Context) → Sizes ctx → (pass slice lane : ℕ) → slice 
 unfolding run alone
 run_alone ctx sizes pass slice lane four [] m memory memory' h = h
 run_alone ctx sizes pass slice lane four (x ∷ xs) m memory memory' h =
-    let Seen = λ (n : ℕ). SeenAlike ctx slice lane (run ctx pass slice (x ∷ xs) memory) (alone ctx pass slice lane n memory') in
+    let Seen = λ (l n : ℕ). SeenAlike ctx slice l (run ctx pass slice (x ∷ xs) memory) (alone ctx pass slice l n memory') in
     let st = head_step ctx sizes pass slice x xs four m in
-    let rest = run_alone ctx sizes pass slice lane four xs (MayRun-tail ctx pass slice x xs m) in
+    let rest = λ (l : ℕ). run_alone ctx sizes pass slice l four xs (MayRun-tail ctx pass slice x xs m) in
     elim (cases_eq x lane) [
-      | inl e ↦ subst Seen (sym (ap (λ y. turns lane (y ∷ xs)) e ∙ turns-same lane xs)) (rest _ _
-          (subst (λ y. SeenAlike ctx slice y memory memory' → SeenAlike ctx slice y (step ctx memory pass x (turn_column ctx slice
-          (turns x xs))) (step ctx memory' pass y (turn_column ctx slice (turns y xs)))) e
-          (step_of_own ctx sizes pass slice x _ memory memory' st.0 st.1) h))
-      | inr ne ↦ subst Seen (sym (turns-other lane x xs ne)) (rest _ _
-          (step_of_other ctx pass slice lane x _ memory memory' ne st.0.in_columns st.1 h))
+      | inl e ↦ subst (λ l. SeenAlike ctx slice l memory memory' → Seen l (turns l (x ∷ xs))) e (λ own.
+          subst (Seen x) (sym (turns-same x xs)) (rest x _ _ (step_of_own ctx sizes pass slice x _ memory memory' st.0 st.1 own))) h
+      | inr ne ↦ subst (Seen lane) (sym (turns-other lane x xs ne))
+          (rest lane _ _ (step_of_other ctx pass slice lane x _ memory memory' ne st.0.in_columns st.1 h))
     ]
 
 -- any two schedules of a slice give the same blocks, whatever they hold
@@ -170,14 +145,12 @@ pub schedules_agree : (ctx : Context) → Sizes ctx → (pass slice : ℕ) → s
     → run ctx pass slice xs memory ≡ run ctx pass slice ys memory
 schedules_agree ctx sizes pass slice four xs ys ix iy memory size =
     let q = lane_length ctx in
-    let seen : (lane : ℕ) (zs : List ℕ) → IsSchedule ctx pass slice zs
-    → SeenAlike ctx slice lane (run ctx pass slice zs memory) (alone ctx pass slice lane (turns lane zs) memory) =
-    λ lane zs is. run_alone ctx sizes pass slice lane four zs (MayRun-from ctx pass slice zs is) memory memory
+    let seen = λ (lane : ℕ) (zs : List ℕ) (is : IsSchedule ctx pass slice zs).
+    run_alone ctx sizes pass slice lane four zs (MayRun-from ctx pass slice zs is) memory memory
     (record { size = size; size' = size; same = λ l c a below far. refl }) in
     let one = (seen 0 xs ix).size in
-    let other = (seen 0 ys iy).size in
     let two = sizes.two_columns in
-    ext_get_or [] _ _ (one ∙ sym other) (λ n lt.
+    ext_get_or [] _ _ (one ∙ sym (seen 0 ys iy).size) (λ n lt.
     let lane : n / q < ctx.p_cost = div_below n q ctx.p_cost (omega arith) (omega arith) in
     let column : n % q < q = mod-lt n (omega arith) in
     subst (λ place. slice_index_or (run ctx pass slice xs memory) place [] ≡ slice_index_or (run ctx pass slice ys memory) place [])
