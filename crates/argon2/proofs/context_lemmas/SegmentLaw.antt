@@ -1,6 +1,6 @@
 -- Segments that are filled on the parts of a memory, slice by slice, lead to the tag.
 use Rattle.argon2.proofs.Imports.{◌≡◌, ℕ, zero, suc, ◌+◌, ◌-◌, ◌*◌, ◌/◌, ◌%◌, ◌<◌, ◌≤◌, inl, inr, List, [], map, length, refl, sym, ap, ◌∙◌, subst, arith, drop, slice_index_or, take}
-use Rattle.argon2.proofs.Imports.{range_with_len, lt_of_mul-lt-mul_right, mod-lt, div-mul-add, div_below, mod-mul-add, mul-add-lt, cases_lt, get_or-drop, get_or-take}
+use Rattle.argon2.proofs.Imports.{range_with_len, le-div, mod-lt, div-mul-add, div_below, mod-mul-add, mul-add-lt, cases_lt, get_or-drop, get_or-take}
 use Rattle.argon2.proofs.Imports.{get_or-map-range_with_len, length-map-range_with_len, bytes_of, long_hash, Context, FirstColumns, block_count, block_of, first_block, lane_length}
 use Rattle.argon2.proofs.Imports.{last_block, segment_length, tag_of, Memory, Sizes, AreParts, BeginsSlices, FillsSegment, IsFilledBySegments, last_of_slice, segment_in, slice_length}
 use Rattle.argon2.proofs.Imports.{slices_after, slices_before, HasBlocksUpTo, columns_before}
@@ -38,16 +38,8 @@ in_lanes_at ctx memory k lane i four l h =
     let column = k * s + i in
     let n = lane * q + column in
     let high : column < q = in_lane s k i four h in
-    let at : ℕ → ℕ → List ℕ = λ lane column. slice_index_or memory ((column / s * ctx.p_cost + lane) * s + column % s) [] in
-    get_or-map-range_with_len (λ place. at (place / q) (place % q)) 0 (block_count ctx) n n []
-    (place_below ctx lane column l high) (omega arith)
+    get_or-map-range_with_len _ 0 (block_count ctx) n n [] (place_below ctx lane column l high) (omega arith)
     ∙ rw (div-mul-add lane q column high, mod-mul-add lane q column high, div-mul-add k s i h, mod-mul-add k s i h) refl
-
--- a place in the slices before one
-place_before : (p s slice k lane i : ℕ) → k < slice → lane < p → i < s → (k * p + lane) * s + i < slice * (p * s)
-place_before p s slice k lane i below l h =
-    let row = mul-add-lt k p lane slice below l in
-    omega (arith, mul-add-lt (k * p + lane) s i (p * slice) row h)
 
 -- the parts of a memory are parts of it
 parts_of : (ctx : Context) (slice lane : ℕ) (memory : Memory) → slice < 4 → lane < ctx.p_cost
@@ -58,7 +50,9 @@ parts_of ctx slice lane memory four own =
     let p = ctx.p_cost in
     record {
       in_before = λ k l i below a lt.
-          get_or-take (slice * slice_length ctx) memory ((k * p + l) * s + i) [] (place_before p s slice k l i below a lt)
+          let row = mul-add-lt k p l slice below a in
+          let place = mul-add-lt (k * p + l) s i (p * slice) row lt in
+          get_or-take (slice * slice_length ctx) memory ((k * p + l) * s + i) [] (omega arith)
           ∙ sym (in_lanes_at ctx memory k l i (omega arith) a lt);
       in_own = λ i lt.
           let start = slice * slice_length ctx + lane * s in
@@ -84,49 +78,38 @@ pub slice_fills : (ctx : Context) → Sizes ctx → (first : FirstColumns) (pass
     → HasBlocksUpTo ctx first pass (λ _. columns_before ctx pass (suc slice)) (in_lanes ctx memory')
 slice_fills ctx sizes first pass slice memory memory' four fills before after h =
     let s = segment_length ctx in
-    let p = ctx.p_cost in
-    let q = lane_length ctx in
     let two = sizes.two_columns in
     let later = turn_count-later_slice ctx pass slice in
     let few = turn_count-le ctx pass slice in
-    let Is : ℕ → ℕ → ℕ → Type 0 =
-    λ r l c. slice_index_or (in_lanes ctx memory') (l * q + c) [] ≡ block_of ctx first r l c in
+    let Is = λ (r l c : ℕ). slice_index_or (in_lanes ctx memory') (l * lane_length ctx + c) [] ≡ block_of ctx first r l c in
+    let one = λ (l : ℕ). parts_of ctx slice l memory four in
+    let other = λ (l : ℕ). parts_of ctx slice l memory' four in
     record {
       size = length-in_lanes ctx memory';
       new = λ l c a below lt.
           let k = c / s in
           let i = c % s in
           let small : i < s = mod-lt c (omega arith) in
-          let is : k * s + i ≡ c = div-add-mod' c s in
-          let here = (in_slice s c two below).above in
-          subst (Is pass l) is (elim (cases_lt k slice) [
+          subst (Is pass l) (div-add-mod' c s) (elim (cases_lt k slice) [
             | inl low ↦ (
                 let row = mul-add-lt k s i slice low small in
-                sym ((parts_of ctx slice l memory' four a).in_before k l i low a small)
-                ∙ ap (λ (m : Memory). slice_index_or m ((k * p + l) * s + i) []) before
-                ∙ (parts_of ctx slice l memory four a).in_before k l i low a small
-                ∙ h.new l (k * s + i) a (omega arith) (omega arith))
+                let new = h.new l (k * s + i) a (omega (arith, div-add-mod' c s)) (omega arith) in
+                cc ((one l a).in_before k l i low a small, (other l a).in_before k l i low a small))
             | inr high ↦ (
-                let low : k < slice + 1 = div_below c s (slice + 1) (omega arith) (omega arith) in
+                let low = div_below c s (slice + 1) (omega arith) (omega arith) in
                 let same : k ≡ slice = omega arith in
-                ap (λ x. slice_index_or (in_lanes ctx memory') (l * q + (x * s + i)) []) same
-                ∙ sym ((parts_of ctx slice l memory' four a).in_own i small)
-                ∙ (fills l a).made first (in_lanes ctx memory) (parts_of ctx slice l memory four a) h i small
-                ∙ ap (λ x. block_of ctx first pass l (x * s + i)) (sym same))
+                rw same (cc ((other l a).in_own i small, (fills l a).made first (in_lanes ctx memory) (one l a) h i small)))
           ]);
       old = λ r l c turn a below le.
           let k = c / s in
           let i = c % s in
           let small : i < s = mod-lt c (omega arith) in
-          let is : k * s + i ≡ c = div-add-mod' c s in
+          let is = div-add-mod' c s in
           let here = in_slice s c two below in
-          let high : slice + 1 < k + 1 = lt_of_mul-lt-mul_right s (let at = here.below in omega arith) in
-          let above : slice < k = omega arith in
+          let above = le-div (suc slice) c s (omega arith) (omega arith) in
+          let old = h.old r l (k * s + i) turn a (omega arith) (omega arith) in
           subst (Is r l) is
-          (sym ((parts_of ctx slice l memory' four a).in_after k l i above here.one_of_four a small)
-          ∙ ap (λ (m : Memory). slice_index_or m (((k - suc slice) * p + l) * s + i) []) after
-          ∙ (parts_of ctx slice l memory four a).in_after k l i above here.one_of_four a small
-          ∙ h.old r l (k * s + i) turn a (omega arith) (omega arith));
+          (cc ((one l a).in_after k l i above here.one_of_four a small, (other l a).in_after k l i above here.one_of_four a small));
     }
 
 -- a first slice that was begun is where pass 0 begins
