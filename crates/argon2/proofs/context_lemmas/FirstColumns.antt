@@ -2,15 +2,21 @@
 use Rattle.argon2.proofs.Imports.{◌≡◌, ℕ, ◌+◌, ◌*◌, ◌^◌, ◌<◌, ◌≤◌, ◌≢◌, inl, inr, List, [], length, ◌∙◌, arith, slice_index_or, slice_set, common_steps, cases_eq, get_or-set_other}
 use Rattle.argon2.proofs.Imports.{same_from_place, mul-le-mul_left, mul-le-mul_right, Context, lane_length, Sizes}
 
+-- a lane ends within the lanes
+pub lane_within : (lane width lanes : ℕ) → lane < lanes → lane * width + width ≤ lanes * width
+lane_within lane width lanes below =
+    let end : (lane + 1) * width ≤ lanes * width = mul-le-mul_right width (omega arith) in omega arith
+
 -- lanes that have no more blocks than they have columns end where a number of 32 bits does
-pub lane_fits : (ctx : Context) → Sizes ctx → (lane width : ℕ) → lane < ctx.p_cost → width ≤ lane_length ctx
-    → (lane * width + width ≤ ctx.p_cost * width) × (ctx.p_cost * width < 2 ^ 32)
-lane_fits ctx sizes lane width below most =
-    let end : (lane + 1) * width ≤ ctx.p_cost * width = mul-le-mul_right width (omega arith) in
+pub lanes_fit : (ctx : Context) (width : ℕ) → width ≤ lane_length ctx → Sizes ctx → ctx.p_cost * width < 2 ^ 32
+lanes_fit ctx width most sizes =
     let all : ctx.p_cost * width ≤ ctx.p_cost * lane_length ctx = mul-le-mul_left ctx.p_cost most in
     let memory = sizes.in_memory in
     let small = sizes.m_cost in
-    (omega arith, omega arith)
+    omega arith
+
+-- where a lane ends
+pub ruleset lane_fits = (lane_within, lanes_fit)
 
 -- a memory with two blocks written at the start of a lane of q columns
 abbrev pub with_pair : ℕ → ℕ → List (List ℕ) → (ℕ → List ℕ) → List (List ℕ)
@@ -21,11 +27,7 @@ module _ (q lane : ℕ) (two : 2 ≤ q) (memory : List (List ℕ)) (f : ℕ → 
   pub with_pair-other : (k c : ℕ) → c < q → (k ≡ lane → 2 ≤ c)
       → slice_index_or (with_pair q lane memory f) (k * q + c) [] ≡ slice_index_or memory (k * q + c) []
   with_pair-other k c below apart =
-      let other : (d : ℕ) → d < 2 → k * q + c ≢ lane * q + d =
-      λ d small e. (let s = same_from_place k c lane d q below (omega arith) e in let high = apart s.0 in let z : c ≡ d = s.1 in
-      omega arith) in
-      get_or-set_other (slice_set memory (lane * q + 0) (f 0)) (lane * q + 1) (k * q + c) (f 1) [] (other 1 (omega arith))
-      ∙ get_or-set_other memory (lane * q + 0) (k * q + c) (f 0) [] (other 0 (omega arith))
+      grind (arith, get_or-set_other {A = List ℕ}, same_from_place k c lane 0 q, same_from_place k c lane 1 q)
 
   -- the lane has the two blocks
   with_pair-same : lane * q + 1 < length memory → (c : ℕ) → c < 2

@@ -25,6 +25,7 @@ pub(super) struct Step {
 
 impl<'a> Instance<'a> {
     /// Makes the matrix for an output of `out_len` bytes in the first blocks of the memory.
+    #[tactic(auto, unfolding(crate::specs::WatchedFilling::slices_calls, crate::proofs::context_lemmas::Counts::passes_calls))]
     pub(super) fn fill_blocks<B: MemoryBlock>(
         &self,
         pwd: &[u8],

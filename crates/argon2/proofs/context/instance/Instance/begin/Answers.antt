@@ -1,33 +1,9 @@
 use Rattle.argon2.proofs.Imports.{◌≡◌, ◌+◌, ◌*◌, ◌<◌, length, map, ap, refl, sym, ◌∙◌, arith, rules, slice_set, length-map, map-set, block_after, first_block}
-use Rattle.argon2.proofs.context_lemmas.FirstColumns.{lane_fits, with_pair, with_pair-lanes, with_pair-other}
+use Rattle.argon2.proofs.context_lemmas.FirstColumns.{lane_within, with_pair, with_pair-lanes, with_pair-other}
 use Rattle.argon2.proofs.context.instance.Instance.begin.Goals as goal
 
 pub loop-lane-init : goal.loop-lane-init
 loop-lane-init g c = record { begun = λ k d low two. absurd (omega arith); others = λ k d l low high. refl }
-
-pub overflow_mul-first : goal.overflow_mul-first
-overflow_mul-first g c =
-    let fits = lane_fits _ c.lanes-lane-end.ensures.sizes c.loop-lane.lane c.args.width (omega arith) c.requires.most in
-    omega (arith, fits.0, fits.1)
-
-pub overflow_add-first : goal.overflow_add-first
-overflow_add-first g c =
-    let fits = lane_fits _ c.lanes-lane-end.ensures.sizes c.loop-lane.lane c.args.width (omega arith) c.requires.most in
-    omega (arith, fits.0, fits.1, c.requires.two)
-
-pub offset_bounds-blocks-first : goal.offset_bounds-blocks-first
-offset_bounds-blocks-first g c =
-    let n = c.loop-lane.lane in
-    let fits = lane_fits _ c.lanes-lane-end.ensures.sizes n c.args.width (omega arith) c.requires.most in
-    let room : n * c.args.width < length c.loop-lane.blocks = omega arith in
-    search rules
-
-pub offset_bounds-blocks-first-in-loop-lane : goal.offset_bounds-blocks-first-in-loop-lane
-offset_bounds-blocks-first-in-loop-lane g c =
-    let n = c.loop-lane.lane in
-    let fits = lane_fits _ c.lanes-lane-end.ensures.sizes n c.args.width (omega arith) c.requires.most in
-    let room : n * c.args.width + 1 < length c.loop-lane.blocks = omega arith in
-    search rules
 
 pub loop-lane-preserved : goal.loop-lane-preserved
 loop-lane-preserved g c =
@@ -36,8 +12,7 @@ loop-lane-preserved g c =
     let n = c.loop-lane.lane in
     let m = c.loop-lane.blocks in
     let blocks = block_after c.initial_hash-hash.result in
-    let fits = lane_fits _ c.lanes-lane-end.ensures.sizes n width (omega arith) c.requires.most in
-    let end = fits.0 in
+    let end = lane_within n width c.args.self.now.p_cost (omega arith) in
     let two = c.requires.two in
     let size = c.loop-lane.auto.blocks ∙ c.requires.size in
     let room : n * width + 1 < length (map f m) = omega (arith, length-map m f) in

@@ -15,27 +15,14 @@ loop-pass-init g c =
     let first = first_block ctx c.args.pwd.now c.args.salt.now c.args.out_len in
     let size = length-map (take count old) words ∙ length-take-le count old (search rules) ∙ c.block_count.ensures.value in
     let begins = lanes_begin ctx c.lane_length.result c.lane_length.ensures.value first _ _ size c.begin.ensures in
-    record {
-      filled = filled_first ctx c.passes-pass-end.ensures.sizes first _ _ begins;
-      watched = record { list = refl; count = omega arith };
-    }
-
-pub loop-slice-init : goal.loop-slice-init
-unfolding slices_calls
-loop-slice-init g c =
-    let before = c.loop-pass.invariant in
-    record {
-      filled = before.filled;
-      watched = record { list = before.watched.list; count = omega (arith, before.watched.count) };
-    }
+    record { filled = filled_first ctx c.passes-pass-end.ensures.sizes first _ _ begins; watched = grind arith }
 
 pub loop-lane-init : goal.loop-lane-init
-loop-lane-init g c =
-    let before = c.loop-slice.invariant in
-    record {
-      filled = IsFilledUpTo-like _ _ _ _ _ _ _ _ (λ l _. in_order-first c.args.self.now c.loop-pass.pass c.loop-slice.slice l) before.filled;
-      watched = record { list = before.watched.list; count = omega (arith, before.watched.count) };
-    }
+loop-lane-init g c = record {
+  filled = IsFilledUpTo-like _ _ _ _ _ _ _ _ (λ l _. in_order-first c.args.self.now c.loop-pass.pass c.loop-slice.slice l)
+      c.loop-slice.invariant.filled;
+  watched = grind (arith, c.loop-slice.invariant.watched);
+}
 
 pub fill_columns-requires-clause-count : goal.fill_columns-requires-clause-count
 fill_columns-requires-clause-count g c =
@@ -44,41 +31,30 @@ fill_columns-requires-clause-count g c =
     omega (arith, few, c.loop-lane.invariant.watched.count)
 
 pub loop-lane-preserved : goal.loop-lane-preserved
-loop-lane-preserved g c =
-    let before = c.loop-lane.invariant in
-    let filled = c.fill_columns.ensures in
-    record {
-      filled = IsFilledUpTo-like _ _ _ _ _ _ _ _ (λ l _. in_order-next c.args.self.now c.loop-pass.pass c.loop-slice.slice c.loop-lane.lane l)
-          (filled.filled _ _ before.filled);
-      watched = record {
-        list = filled.watched.list ∙ before.watched.list;
-        count = omega (arith, filled.watched.count, before.watched.count);
-      };
-    }
+loop-lane-preserved g c = record {
+  filled = IsFilledUpTo-like _ _ _ _ _ _ _ _ (λ l _. in_order-next c.args.self.now c.loop-pass.pass c.loop-slice.slice c.loop-lane.lane l)
+      (c.fill_columns.ensures.filled _ _ c.loop-lane.invariant.filled);
+  watched = grind (arith, c.fill_columns.ensures.watched, c.loop-lane.invariant.watched);
+}
 
 pub loop-slice-preserved : goal.loop-slice-preserved
 unfolding slices_calls
 loop-slice-preserved g c =
-    let ctx = c.args.self.now in
-    let last = c.loop-lane.invariant in
-    let all : c.loop-lane.lane ≡ ctx.p_cost = omega arith in
-    let lanes = ap (λ n. n * segment_calls ctx c.loop-pass.pass c.loop-slice.slice) all in
+    let all : c.loop-lane.lane ≡ c.args.self.now.p_cost = omega arith in
+    let last = rw all at c.loop-lane.invariant.watched in
     record {
       filled = IsFilledUpTo-like _ _ _ _ _ _ _ _
-          (λ l below. in_order-last ctx c.loop-pass.pass c.loop-slice.slice c.loop-lane.lane l (omega arith)) last.filled;
-      watched = record { list = last.watched.list; count = rw add-one (omega (arith, last.watched.count, lanes)) };
+          (λ l below. in_order-last c.args.self.now c.loop-pass.pass c.loop-slice.slice c.loop-lane.lane l (omega arith))
+          c.loop-lane.invariant.filled;
+      watched = rw add-one (grind (arith, last));
     }
 
 pub loop-pass-preserved : goal.loop-pass-preserved
 unfolding passes_calls
 loop-pass-preserved g c =
-    let last = c.loop-slice.invariant in
     let all : c.loop-slice.slice ≡ 4 = omega arith in
-    let count = rw all at last.watched.count in
-    record {
-      filled = filled_next _ _ _ _ _ _ (rw all at last.filled);
-      watched = record { list = last.watched.list; count = rw add-one count };
-    }
+    let last = rw all at c.loop-slice.invariant in
+    record { filled = filled_next _ _ _ _ _ _ last.filled; watched = rw add-one last.watched }
 
 pub returns-clause-filled : goal.returns-clause-filled
 unfolding matrix_of
@@ -102,10 +78,6 @@ returns-clause-filled g c =
 
 pub returns-clause-watched : goal.returns-clause-watched
 returns-clause-watched g c =
-    let ctx = c.args.self.now in
-    let last = c.loop-pass.invariant.watched in
-    let all : c.loop-pass.pass ≡ ctx.t_cost = omega arith in
-    record {
-      list = last.list;
-      count = omega (arith, last.count, ap (passes_calls ctx) all ∙ passes_calls-all ctx c.passes-pass-end.ensures.sizes);
-    }
+    let all : c.loop-pass.pass ≡ c.args.self.now.t_cost = omega arith in
+    let count = ap (passes_calls c.args.self.now) all ∙ passes_calls-all c.args.self.now c.passes-pass-end.ensures.sizes in
+    rw count at c.loop-pass.invariant.watched

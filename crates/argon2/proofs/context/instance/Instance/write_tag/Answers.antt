@@ -1,17 +1,6 @@
 use Rattle.argon2.proofs.Imports.{◌≡◌, ℕ, ◌+◌, ◌-◌, ◌*◌, List, [], map, arith, rules, slice_index_or, range_with_len, map-range_with_len_more, fold_push, xor_blocks, zero_block, xor_lanes}
-use Rattle.argon2.proofs.context_lemmas.FirstColumns.{lane_fits}
 use Rattle.argon2.proofs.context_lemmas.InMemory.{words_read}
 use Rattle.argon2.proofs.context.instance.Instance.write_tag.Goals as goal
-
-pub overflow_mul-place : goal.overflow_mul-place
-overflow_mul-place g c =
-    let fits = lane_fits _ c.lanes-lane-end.ensures.sizes c.loop-lane.lane c.args.width (omega arith) c.requires.most in
-    omega (arith, fits.0, fits.1)
-
-pub overflow_add-place : goal.overflow_add-place
-overflow_add-place g c =
-    let fits = lane_fits _ c.lanes-lane-end.ensures.sizes c.loop-lane.lane c.args.width (omega arith) c.requires.most in
-    omega (arith, fits.0, fits.1, c.requires.one)
 
 pub loop-lane-preserved : goal.loop-lane-preserved
 loop-lane-preserved g c =
