@@ -38,8 +38,5 @@ module _ (q lane : ℕ) (two : 2 ≤ q) (memory : List (List ℕ)) (f : ℕ → 
 pub with_pair-lanes : (q lane : ℕ) → 2 ≤ q → (memory : List (List ℕ)) (f : ℕ → ℕ → List ℕ) → lane * q + 1 < length memory
     → ((k c : ℕ) → k < lane → c < 2 → slice_index_or memory (k * q + c) [] ≡ f k c)
     → (k c : ℕ) → k < lane + 1 → c < 2 → slice_index_or (with_pair q lane memory (f lane)) (k * q + c) [] ≡ f k c
-with_pair-lanes q lane two memory f room before k c below small = elim (cases_eq k lane) [
-  | inl e ↦ rw e (with_pair-same q lane two memory (f lane) room c small)
-  | inr ne ↦
-      (with_pair-other q lane two memory (f lane) k c (omega arith) (λ e. absurd (ne e)) ∙ before k c (omega arith) small)
-]
+with_pair-lanes q lane two memory f room before k c below small =
+    grind (arith, with_pair-same q lane two memory (f lane) room c, with_pair-other q lane two memory (f lane) k c, before k c)

@@ -35,23 +35,13 @@ step_positions ctx sizes first pass lane column done done' old new place st t is
     let i = position_index ctx pass lane column in
     record {
       size = length-set new i place ∙ has.size;
-      of_steps = λ r l c s st' h. elim (cases_eq (position_index ctx r l c) i) [
-        | inl e ↦ (
-            let one = position_index-same ctx pass lane column r l c st.in_lanes st.in_columns st'.in_lanes st'.in_columns e in
-            let set = get_or-set_same new i place 0 (omega arith) in cc)
-        | inr ne ↦ (
-            let apart : r ≡ pass → l ≡ lane → c ≢ column = λ p e f. ne (cc) in
-            let own = cases_eq l lane in
-            let other = others l in
-            get_or-set_other new i (position_index ctx r l c) place 0 ne ∙ has.of_steps r l c s st' (grind arith))
-      ];
+      of_steps = λ r l c s st' h.
+          let one = position_index-same ctx pass lane column r l c st.in_lanes st.in_columns st'.in_lanes st'.in_columns in
+          let set = get_or-set_same new i place 0 (omega arith) in
+          grind (arith, get_or-set_other new i (position_index ctx r l c), others l, has.of_steps r l c s st');
       of_first_columns = λ l c a b.
-          let apart : position_index ctx 0 l c ≢ i = λ e. (
-          let one = position_index-same ctx pass lane column 0 l c st.in_lanes st.in_columns a (omega arith) e in
-          let low : 2 ≤ column = st.later (sym one.0) in
-          let f : c ≡ column = one.2 in
-          omega arith) in
-          get_or-set_other new i (position_index ctx 0 l c) place 0 apart ∙ has.of_first_columns l c a b;
+          let one = position_index-same ctx pass lane column 0 l c st.in_lanes st.in_columns a (omega arith) in
+          grind (arith, get_or-set_other new i (position_index ctx 0 l c), has.of_first_columns l c a b);
     }
 
 -- the end of a pass is the start of the next

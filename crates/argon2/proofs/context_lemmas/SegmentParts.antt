@@ -13,35 +13,6 @@ use Rattle.argon2.proofs.context_lemmas.SegmentColumns.{in_lane}
 column_apart : (s k i slice index : ℕ) → k < slice → i < s → k * s + i ≢ slice * s + index
 column_apart s k i slice index below h e = let b = mul-add-lt k s i slice below h in omega arith
 
--- a block that is written into the segment is written into the memory
-parts_set : (ctx : Context) (slice lane index : ℕ) (memory before own after : Memory) (b : List ℕ)
-    → slice < 4 → lane < ctx.p_cost → index < segment_length ctx
-    → length own ≡ segment_length ctx → length memory ≡ block_count ctx
-    → AreParts ctx slice lane memory before own after
-    → AreParts ctx slice lane (slice_set memory (lane * lane_length ctx + (slice * segment_length ctx + index)) b) before
-    (slice_set own index b) after
-parts_set ctx slice lane index memory before own after b four l h size all parts =
-    let s = segment_length ctx in
-    let q = lane_length ctx in
-    let column = slice * s + index in
-    let at = lane * q + column in
-    let high : column < q = in_lane s slice index four h in
-    let within = place_below ctx lane column l high in
-    let kept : (o c : ℕ) → c < q → (o ≡ lane → c ≢ column)
-    → slice_index_or memory (o * q + c) [] ≡ slice_index_or (slice_set memory at b) (o * q + c) [] =
-    λ o c fits ne. sym (set_apart q o c lane column memory b fits high ne) in
-    record {
-      in_before = λ k o i below a lt. parts.in_before k o i below a lt
-          ∙ kept o (k * s + i) (in_lane s k i (omega arith) lt) (λ _. column_apart s k i slice index below lt);
-      in_own = λ i lt. elim (cases_eq i index) [
-        | inl e ↦ rw e (get_or-set_same own index b [] (omega arith) ∙ sym (get_or-set_same memory at b [] (omega arith)))
-        | inr ne ↦ (get_or-set_other own index i b [] ne ∙ parts.in_own i lt
-            ∙ kept lane (slice * s + i) (in_lane s slice i four lt) (λ _ e. ne (omega arith)))
-      ];
-      in_after = λ k o i above below a lt. parts.in_after k o i above below a lt
-          ∙ kept o (k * s + i) (in_lane s k i below lt) (λ _ e. column_apart s slice index k i above h (sym e));
-    }
-
 -- a step writes one block of each
 pub step_parts : (ctx : Context) (at : Step) (memory before own after : Memory) (b : List ℕ)
     → IsStepAt ctx at → length own ≡ segment_length ctx → length memory ≡ block_count ctx
@@ -50,8 +21,24 @@ pub step_parts : (ctx : Context) (at : Step) (memory before own after : Memory) 
     → AreParts ctx at.slice at.lane (step ctx memory at.pass at.lane (column_of ctx at)) before (slice_set own at.index b) after
 unfolding step
 step_parts ctx at memory before own after b st size all parts made =
-    rw (← made)
-    (parts_set ctx at.slice at.lane at.index memory before own after b st.in_slices st.step.in_lanes st.in_segment size all parts)
+    let s = segment_length ctx in
+    let q = lane_length ctx in
+    let column = column_of ctx at in
+    let high = st.step.in_columns in
+    let within = place_below ctx at.lane column st.step.in_lanes high in
+    let kept : (o c : ℕ) → c < q → (o ≡ at.lane → c ≢ column)
+    → slice_index_or memory (o * q + c) [] ≡ slice_index_or (slice_set memory (at.lane * q + column) b) (o * q + c) [] =
+    λ o c fits ne. sym (set_apart q o c at.lane column memory b fits high ne) in
+    rw (← made) (record {
+      in_before = λ k o i below a lt. parts.in_before k o i below a lt
+          ∙ kept o (k * s + i) (in_lane s k i (let four = st.in_slices in omega arith) lt)
+          (λ _. column_apart s k i at.slice at.index below lt);
+      in_own = λ i lt.
+          let fits = in_lane s at.slice i st.in_slices lt in
+          grind (arith, get_or-set_same {A = List ℕ}, get_or-set_other {A = List ℕ}, parts.in_own i, kept at.lane (at.slice * s + i));
+      in_after = λ k o i above below a lt. parts.in_after k o i above below a lt
+          ∙ kept o (k * s + i) (in_lane s k i below lt) (λ _ e. column_apart s at.slice at.index k i above st.in_segment (sym e));
+    })
 
 -- a step may read the block that it refers to
 pub ruleset readable = (Reads-place, reference_reads)

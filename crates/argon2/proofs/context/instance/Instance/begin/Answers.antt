@@ -2,9 +2,6 @@ use Rattle.argon2.proofs.Imports.{◌≡◌, ◌+◌, ◌*◌, ◌<◌, length, 
 use Rattle.argon2.proofs.context_lemmas.FirstColumns.{lane_within, with_pair, with_pair-lanes, with_pair-other}
 use Rattle.argon2.proofs.context.instance.Instance.begin.Goals as goal
 
-pub loop-lane-init : goal.loop-lane-init
-loop-lane-init g c = record { begun = λ k d low two. absurd (omega arith); others = λ k d l low high. refl }
-
 pub loop-lane-preserved : goal.loop-lane-preserved
 loop-lane-preserved g c =
     let f = g.B.MemoryBlock.words in

@@ -31,10 +31,8 @@ returns-then-slice-at-2 c = λ memory parts.
     let k = c.slice_of-slice.result in
     let two = c.segment_length.ensures.sizes.two_columns in
     let slice = rw (← c.slice_of-slice.ensures) at (in_slice s c.args.column two c.requires.place.in_columns) in
-    let here = index_in s c.args.column k slice in
     rw (c.place_in_slices.ensures.value, c.segment_length.ensures.value)
-    (parts.in_before k c.args.lane (c.args.column - k * s) c.if-slice-at-2.true c.requires.place.in_lanes here.0
-    ∙ ap (λ n. slice_index_or memory (c.args.lane * lane_length ctx + n) []) here.1)
+    (grind (arith, parts.in_before k c.args.lane (c.args.column - k * s)))
 
 pub returns-else-slice-at-2 : goal.returns-else-slice-at-2
 returns-else-slice-at-2 c = λ memory parts.
@@ -43,7 +41,5 @@ returns-else-slice-at-2 c = λ memory parts.
     let k = c.slice_of-slice.result in
     let two = c.segment_length.ensures.sizes.two_columns in
     let slice = rw (← c.slice_of-slice.ensures) at (in_slice s c.args.column two c.requires.place.in_columns) in
-    let here = index_in s c.args.column k slice in
     rw (c.place_in_slices-else-slice-at-2.ensures.value, c.segment_length.ensures.value, add-one)
-    (parts.in_after k c.args.lane (c.args.column - k * s) (omega arith) slice.one_of_four c.requires.place.in_lanes here.0
-    ∙ ap (λ n. slice_index_or memory (c.args.lane * lane_length ctx + n) []) here.1)
+    (grind (arith, parts.in_after k c.args.lane (c.args.column - k * s)))

@@ -8,20 +8,16 @@ pub loop-index-init : goal.loop-index-init
 loop-index-init g c =
     let ctx = c.args.self.now in
     let start = c.first_index-start.ensures in
+    let turns = start.turns in
+    let few = start.few in
     let begins : columns_before ctx c.args.pass c.args.slice ≡ c.args.slice * segment_length ctx + c.first_index-start.result =
-    (let turns = start.turns in omega arith) in
-    let serves : 0 / 128 ≡ (c.first_index-start.result - 1) / 128 = (let few = start.few in omega arith) in
+    omega arith in
+    let serves : 0 / 128 ≡ (c.first_index-start.result - 1) / 128 = omega arith in
     record {
       filled = λ first old is. rw (← begins) is;
       addresses = c.addresses-addresses.ensures.block ∙ same_addresses ctx c.args.pass c.args.lane c.args.slice _ _ serves;
-      watched = record {
-        list = refl;
-        count =
-            let two = c.addresses-addresses.ensures.work in
-            let first = first_mixings ctx c.args.pass c.args.slice in
-            let mixings = same_mixings ctx c.args.pass c.args.slice 0 (c.first_index-start.result - 1) serves in
-            omega arith;
-      };
+      watched = grind (arith, c.addresses-addresses.ensures.work, first_mixings,
+          same_mixings ctx c.args.pass c.args.slice 0 (c.first_index-start.result - 1) serves);
     }
 
 pub loop-index-preserved : goal.loop-index-preserved
@@ -37,24 +33,14 @@ loop-index-preserved g c =
     (record { pass = c.args.pass; lane = c.args.lane; slice = c.args.slice; index = i }) c.requires.in_lanes
     c.requires.in_slices (rw c.segment_length-segment.ensures.value at c.loop-index-test.true)
     (λ first. let two = c.first_index-start.ensures.later first in omega arith) in
-    record {
+    rw (← same) (record {
       filled = λ first old is.
-          let put = c.put.ensures.place in
-          let position = c.position.ensures in
-          let place = c.step-reference.ensures.place in
-          let made = c.step-reference.ensures.step in
-          rw (put, position, place, made, ← end)
+          rw (c.put.ensures.place, c.position.ensures, c.step-reference.ensures.place, c.step-reference.ensures.step, ← end)
           (filled_step ctx st.sizes first c.args.pass c.args.slice c.args.lane column _ old _
           c.requires.in_passes st.step (a_column ctx _ st) (before.filled first old is));
-      addresses = c.renew.ensures.block ∙ ap (addresses_at ctx c.args.pass c.args.lane c.args.slice) same;
-      watched = record {
-        list = c.put.ensures.watched.list ∙ before.watched.list;
-        count =
-            let renewed = c.renew.ensures.work in
-            let next = ap (address_mixings ctx c.args.pass c.args.slice) same in
-            omega (arith, before.watched.count, c.step-reference.ensures.work, c.put.ensures.watched.count);
-      };
-    }
+      addresses = c.renew.ensures.block;
+      watched = grind (arith, before.watched, c.renew.ensures.work, c.step-reference.ensures.work, c.put.ensures.watched);
+    })
 
 pub returns-clause-filled : goal.returns-clause-filled
 returns-clause-filled g c =
@@ -70,6 +56,4 @@ returns-clause-watched g c =
     let turns = c.first_index-start.ensures.turns in
     let s = c.segment_length-segment.ensures.value in
     let end : c.loop-index.index ≡ segment_length c.args.self.now = omega arith in
-    let mixings = ap (λ n. address_mixings c.args.self.now c.args.pass c.args.slice (n - 1)) end in
-    let watched = c.loop-index.invariant.watched in
-    record { list = watched.list; count = omega (arith, watched.count) }
+    grind (arith, rw end at c.loop-index.invariant.watched)

@@ -9,28 +9,17 @@ pub loop-index-init : goal.loop-index-init
 loop-index-init c =
     let ctx = c.args.self.now in
     let start = c.first_index-start.ensures in
+    let turns = start.turns in
+    let few = start.few in
     let begins : columns_before ctx c.args.pass c.args.slice ≡ c.args.slice * segment_length ctx + c.first_index-start.result =
-    (let turns = start.turns in omega arith) in
-    let serves : 0 / 128 ≡ (c.first_index-start.result - 1) / 128 = (let few = start.few in omega arith) in
+    omega arith in
+    let serves : 0 / 128 ≡ (c.first_index-start.result - 1) / 128 = omega arith in
     record {
       size = refl;
-      filled = λ first memory parts is. (
-        memory,
-        (
-          parts,
-          rw (← begins)
-              (HasBlocksUpTo-like ctx first c.args.pass (λ _. columns_before ctx c.args.pass c.args.slice) _ memory
-              (λ l _. ahead-first ctx c.args.pass c.args.slice c.args.lane l) is),
-        ),
-      );
+      filled = λ first memory parts is. (memory, (parts, rw (← begins) (HasBlocksUpTo-like ctx first c.args.pass _ _ memory
+          (λ l _. ahead-first ctx c.args.pass c.args.slice c.args.lane l) is)));
       addresses = c.addresses-addresses.ensures.block ∙ same_addresses ctx c.args.pass c.args.lane c.args.slice _ _ serves;
     }
-
-pub step_own-requires-clause-step : goal.step_own-requires-clause-step
-step_own-requires-clause-step c =
-    a_step c.args.self.now c.segment_length-segment.ensures.sizes _ c.requires.in_lanes c.requires.in_slices
-    (rw c.segment_length-segment.ensures.value at c.loop-index-test.true)
-    (λ first. let two = c.first_index-start.ensures.later first in omega arith)
 
 pub loop-index-preserved : goal.loop-index-preserved
 loop-index-preserved c =
@@ -48,19 +37,14 @@ loop-index-preserved c =
     (record { pass = pass; lane = lane; slice = slice; index = i }) c.requires.in_lanes c.requires.in_slices
     (rw c.segment_length-segment.ensures.value at c.loop-index-test.true)
     (λ first. let two = c.first_index-start.ensures.later first in omega arith) in
-    let made = c.step_own.ensures.step in
-    record {
+    rw (← same) (record {
       size = c.step_own.ensures.size ∙ before.size;
       filled = λ first memory parts is.
-          let m = before.filled first memory parts is in (
-            step ctx m.0 pass lane column,
-            (
-              made m.0 m.1.1.size m.1.0,
-              rw (← end) (ahead_step ctx st.sizes first pass slice lane column m.0 st.step (a_column ctx _ st) m.1.1),
-            ),
-          );
-      addresses = c.renew.ensures.block ∙ ap (addresses_at ctx pass lane slice) same;
-    }
+          let m = before.filled first memory parts is in
+          (_, (c.step_own.ensures.step m.0 m.1.1.size m.1.0,
+          rw (← end) (ahead_step ctx st.sizes first pass slice lane column m.0 st.step (a_column ctx _ st) m.1.1)));
+      addresses = c.renew.ensures.block;
+    })
 
 pub returns : goal.returns
 returns c =
