@@ -26,18 +26,17 @@ step_parts ctx at memory before own after b st size all parts made =
     let column = column_of ctx at in
     let high = st.step.in_columns in
     let within = place_below ctx at.lane column st.step.in_lanes high in
-    let kept : (o c : ℕ) → c < q → (o ≡ at.lane → c ≢ column)
-    → slice_index_or memory (o * q + c) [] ≡ slice_index_or (slice_set memory (at.lane * q + column) b) (o * q + c) [] =
-    λ o c fits ne. sym (set_apart q o c at.lane column memory b fits high ne) in
+    let kept = λ (o c : ℕ). set_apart q o c at.lane column memory b in
     rw (← made) (record {
-      in_before = λ k o i below a lt. parts.in_before k o i below a lt
-          ∙ kept o (k * s + i) (in_lane s k i (let four = st.in_slices in omega arith) lt)
-          (λ _. column_apart s k i at.slice at.index below lt);
+      in_before = λ k o i below a lt.
+          let four = st.in_slices in
+          grind (arith, parts.in_before k o i, kept o (k * s + i), in_lane s k i, column_apart s k i at.slice at.index);
       in_own = λ i lt.
           let fits = in_lane s at.slice i st.in_slices lt in
           grind (arith, get_or-set_same {A = List ℕ}, get_or-set_other {A = List ℕ}, parts.in_own i, kept at.lane (at.slice * s + i));
-      in_after = λ k o i above below a lt. parts.in_after k o i above below a lt
-          ∙ kept o (k * s + i) (in_lane s k i below lt) (λ _ e. column_apart s at.slice at.index k i above st.in_segment (sym e));
+      in_after = λ k o i above below a lt.
+          let apart = column_apart s at.slice at.index k i above st.in_segment in
+          grind (arith, parts.in_after k o i, kept o (k * s + i), in_lane s k i);
     })
 
 -- a step may read the block that it refers to

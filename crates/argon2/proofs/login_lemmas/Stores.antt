@@ -89,10 +89,9 @@ module _ {Y : Type 0} where
       values_of n ≡ insert (values_of m) name (phc_of h)
   values_of-set m n name h e =
       same_map nat_list_cmp_total (slice_cmp-IsAntisymmetric nat_cmp-IsAntisymmetric) _ _ (λ q.
-      get-values_of n q ∙ ap (option_map phc_of) (e q) ∙ sym (map_cond (bytes_eq name q) h (get_by_text m q))
-      ∙ ap (λ b. if b then Some (phc_of h) else option_map phc_of (get_by_text m q)) (nat_list_eq_equiv.symm name q)
-      ∙ sym (get-set (values_of m) name (phc_of h) q
-      ∙ ap (λ o. if bytes_eq q name then Some (phc_of h) else o) (get-values_of m q)))
+      let set = get-set (values_of m) name (phc_of h) q in
+      let same = nat_list_eq_equiv.symm name q in
+      grind (arith, get-values_of n q, get-values_of m q, e q))
 
   -- a name that the tree has, and one that it has not
   pub present : (m : BTreeMap (String Y) PasswordHash) (q : List ℕ) → is_some (get_by_text m q) ≡ true →

@@ -18,18 +18,9 @@ or_none (Some x) = refl
 abbrev no_items : Items
 no_items = record { m = None; t = None; p = None; keyid = None; associated = None }
 
--- over none they say what they say
-over_none : (ps : List Pair) → items_over ps no_items ≡ items_of ps
-over_none ps = simp or_none
-
 -- before the first item nothing is read
 pub nothing_read : (list : List Pair) → are_params list ≡ true → Reading list list no_items
-nothing_read list params = record { names = grind arith; fault = refl; items = over_none list }
-
--- the name of the first item stands in no other
-named_once : (item : Pair) (rest : List Pair) → are_distinct (item ∷ rest) ≡ true
-    → (value_of item.0 rest ≡ None) × (are_distinct rest ≡ true)
-named_once item rest names = grind arith
+nothing_read list params = record { names = grind arith; fault = refl; items = simp or_none }
 
 -- a value that is read by `read`, if there is one, else what was found before
 abbrev found_over : {X : Type 0} → (List ℕ → Option X) → Option (List ℕ) → Option X → Option X
@@ -55,28 +46,20 @@ items_next item rest before once = rw (
 
 -- ---- one item more
 
--- what an item that was taken says of its fault and of what was found
-taken_parts : (fault : Option Fault) (after items : Items) → Ok after ≡ unless_fault fault (Ok items)
-    → (fault ≡ None) × (after ≡ items)
-taken_parts fault after items h = grind arith
-
 -- if it is taken
 pub one_more : (list rest : List Pair) (item : Pair) (before after : Items) → Reading list (item ∷ rest) before
     → Ok after ≡ item_taken item before → Reading list rest after
 one_more list rest item before after r taken =
-    let parts = taken_parts (item_fault item) after (items_over (item ∷ []) before) taken in
-    let once = named_once item rest r.names in
-    let next = items_next item rest before once.0 in
-    record { names = once.1; fault = rw parts.0 at r.fault; items = rw (parts.1, next) r.items }
+    let parts : (item_fault item ≡ None) × (after ≡ items_over (item ∷ []) before) = grind arith in
+    let names = r.names in
+    let once : (value_of item.0 rest ≡ None) × (are_distinct rest ≡ true) = grind arith in
+    record { names = once.1; fault = rw parts.0 at r.fault; items = rw (parts.1, items_next item rest before once.0) r.items }
 
 -- if it is refused
-refusal_is : (fault : Option Fault) (items : Items) (f : Fault) → Err f ≡ unless_fault fault (Ok items) → fault ≡ Some f
-refusal_is fault items f h = grind arith
-
 pub item_refused : (list rest : List Pair) (item : Pair) (before : Items) (f : Fault) → Reading list (item ∷ rest) before
     → Err f ≡ item_taken item before → Err f ≡ items_read list
 item_refused list rest item before f r refused =
-    rw (← r.fault, refusal_is (item_fault item) (items_over (item ∷ []) before) f refused) refl
+    let fault : item_fault item ≡ Some f = grind arith in rw (← r.fault, fault) refl
 
 -- an error that is passed on
 pub passed_on : {X Y : Type 0} (view : X → Y) (r : Result X HashError) (e : HashError) → IsErr r × IsErrAnd r (λ e'. e' ≡ e)

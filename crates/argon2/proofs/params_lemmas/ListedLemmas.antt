@@ -23,8 +23,8 @@ decimal_value n h =
 
 base64_value : (x : ℕ) (b : List ℕ) → IsBytes (x ∷ b) → length (x ∷ b) ≤ 32 → is_value (strict_base64 (x ∷ b)) ≡ true
 base64_value x b bytes h =
-    value_from (strict_base64 (x ∷ b)) (omega (arith, length-strict_base64 (x ∷ b)))
-    (omega (arith, length-strict_base64 (x ∷ b))) (base64_chars (x ∷ b) bytes)
+    let size = length-strict_base64 (x ∷ b) in
+    value_from (strict_base64 (x ∷ b)) (omega arith) (omega arith) (base64_chars (x ∷ b) bytes)
 
 -- each item takes its own length, and at most one `,`
 text_length : (ps : List Pair) → length (params_text ps) ≤ sum_by (λ p. length (item p) + 1) ps
@@ -43,18 +43,13 @@ good_from ps each names fits = rw (each, names, le-leb (length (params_text ps))
 pub listed_good : (m t p : ℕ) (k d : List ℕ) → m < 2 ^ 32 → t < 2 ^ 32 → p < 2 ^ 32 → IsBytes k → IsBytes d
     → length k ≤ 8 → length d ≤ 32 → are_params (parameter_items m t p k d) ≡ true
 listed_good m t p [] [] hm ht hp bk bd lk ld =
-    good_from (parameter_items m t p [] []) (rw (decimal_value m hm, decimal_value t ht, decimal_value p hp) refl) refl
-    (omega (arith, length-cost))
+    good_from (parameter_items m t p [] []) (grind (arith, decimal_value)) refl (omega (arith, length-cost))
 listed_good m t p (x ∷ k) [] hm ht hp bk bd lk ld =
-    good_from (parameter_items m t p (x ∷ k) [])
-    (rw (decimal_value m hm, decimal_value t ht, decimal_value p hp, base64_value x k bk (omega (arith, lk))) refl) refl
+    good_from (parameter_items m t p (x ∷ k) []) (grind (arith, decimal_value, base64_value)) refl
     (omega (arith, length-cost, length-strict_base64))
 listed_good m t p [] (y ∷ d) hm ht hp bk bd lk ld =
-    good_from (parameter_items m t p [] (y ∷ d))
-    (rw (decimal_value m hm, decimal_value t ht, decimal_value p hp, base64_value y d bd ld) refl) refl
+    good_from (parameter_items m t p [] (y ∷ d)) (grind (arith, decimal_value, base64_value)) refl
     (omega (arith, length-cost, length-strict_base64))
 listed_good m t p (x ∷ k) (y ∷ d) hm ht hp bk bd lk ld =
-    let keyid = base64_value x k bk (omega (arith, lk)) in
-    good_from (parameter_items m t p (x ∷ k) (y ∷ d))
-    (rw (decimal_value m hm, decimal_value t ht, decimal_value p hp, keyid, base64_value y d bd ld) refl) refl
+    good_from (parameter_items m t p (x ∷ k) (y ∷ d)) (grind (arith, decimal_value, base64_value)) refl
     (omega (arith, length-cost, length-strict_base64))

@@ -20,10 +20,7 @@ pub read_again : (m t p : ℕ) (k d : List ℕ) (o : Option ℕ) → m < 2 ^ 32 
     → IsBytes k → IsBytes d → length k ≤ 8 → length d ≤ 32
     → first_fault m t p o ≡ None
     → params_of o (parameter_items m t p k d) ≡ Ok (record (cost_parameters m t p o) { keyid = k; associated = d })
-read_again m t p [] [] o hm ht hp bk bd lk ld valid = rw (cost m hm, cost t ht, cost p hp, valid) refl
-read_again m t p (x ∷ k) [] o hm ht hp bk bd lk ld valid =
-    rw (cost m hm, cost t ht, cost p hp, some_bytes 8 x k bk lk, valid) refl
-read_again m t p [] (y ∷ d) o hm ht hp bk bd lk ld valid =
-    rw (cost m hm, cost t ht, cost p hp, some_bytes 32 y d bd ld, valid) refl
-read_again m t p (x ∷ k) (y ∷ d) o hm ht hp bk bd lk ld valid =
-    rw (cost m hm, cost t ht, cost p hp, some_bytes 8 x k bk lk, some_bytes 32 y d bd ld, valid) refl
+read_again m t p [] [] o hm ht hp bk bd lk ld valid = simp (cost, valid)
+read_again m t p (x ∷ k) [] o hm ht hp bk bd lk ld valid = simp (cost, some_bytes, valid)
+read_again m t p [] (y ∷ d) o hm ht hp bk bd lk ld valid = simp (cost, some_bytes, valid)
+read_again m t p (x ∷ k) (y ∷ d) o hm ht hp bk bd lk ld valid = simp (cost, some_bytes, valid)

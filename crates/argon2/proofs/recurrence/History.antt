@@ -1,18 +1,12 @@
 -- The blocks satisfy the recurrence, and they alone do.
-use Rattle.argon2.proofs.Imports.{◌≡◌, ℕ, zero, suc, ◌+◌, ◌*◌, ◌/◌, ◌%◌, ◌<◌, inl, inr, ◌&&◌, List, [], map, length, refl, sym, ap, ◌∙◌, arith, slice_index_or, nat_lt, ◌==◌, range_with_len}
+use Rattle.argon2.proofs.Imports.{◌≡◌, ℕ, zero, suc, ◌+◌, ◌*◌, ◌/◌, ◌%◌, ◌<◌, ◌≤◌, inl, inr, ◌&&◌, List, [], map, length, refl, sym, ap, ◌∙◌, arith, slice_index_or, nat_lt, ◌==◌, range_with_len}
 use Rattle.argon2.proofs.Imports.{get_or_append_left, length_push, get_or_push, get_or-map-range_with_len, div-mul-add, mod-mul-add, cases_Bool, cases_lt, nat_tests, Blocks, Context}
 use Rattle.argon2.proofs.Imports.{FirstColumns, block_of, history, in_history, lane_length, made_block, rule, Sizes, IsStep, IsRecurrence}
-use Rattle.argon2.proofs.recurrence.Sources.{Reads, made_cong}
+use Rattle.argon2.proofs.recurrence.Sources.{AgreeOn, made_cong}
 
 -- the moment of a pass's column: how many columns are made before it
 abbrev pub moment : Context → ℕ → ℕ → ℕ
 moment ctx pass column = pass * lane_length ctx + column
-
--- sources are made earlier
-reads_earlier : (ctx : Context) (pass lane column r l c : ℕ)
-    → Reads ctx pass lane column r l c → moment ctx r c < moment ctx pass column
-reads_earlier ctx pass lane column r l c reads =
-    let below = reads.in_columns in let newest = reads.newest in grind arith
 
 -- a rule reads earlier moments alone
 rule_cong : (ctx : Context) → Sizes ctx → (first : FirstColumns) (pass lane column : ℕ)
@@ -20,12 +14,12 @@ rule_cong : (ctx : Context) → Sizes ctx → (first : FirstColumns) (pass lane 
     → ((r l c : ℕ) → l < ctx.p_cost → c < lane_length ctx → moment ctx r c < moment ctx pass column → f r l c ≡ g r l c)
     → rule ctx first f pass lane column ≡ rule ctx first g pass lane column
 unfolding rule
-rule_cong ctx sizes first pass lane column in_lanes in_columns f g h = elim (cases_Bool ((pass == 0) && nat_lt column 2)) [
-  | inl own ↦ rw own refl
-  | inr made ↦ rw made (made_cong ctx sizes pass lane column
-      (record { in_lanes = in_lanes; in_columns = in_columns; later = λ z. grind (arith, nat_tests) }) f g
-      (λ r l c reads. h r l c reads.in_lanes reads.in_columns (reads_earlier ctx pass lane column r l c reads)))
-]
+rule_cong ctx sizes first pass lane column in_lanes in_columns f g h =
+    let agree : AgreeOn ctx pass lane column f g = λ r l c reads. h r l c reads.in_lanes reads.in_columns
+    (let below = reads.in_columns in let newest = reads.newest in grind arith) in
+    let made = λ (later : pass ≡ 0 → 2 ≤ column). made_cong ctx sizes pass lane column
+    (record { in_lanes = in_lanes; in_columns = in_columns; later = later }) f g agree in
+    grind (arith, nat_tests)
 
 -- a history of n columns has length n
 length-history : (ctx : Context) (first : FirstColumns) (n : ℕ) → length (history ctx first n) ≡ n
@@ -52,32 +46,22 @@ unfolding in_history block_of
 in_history_is ctx first n r l c h =
     ap (λ (column : List (List ℕ)). slice_index_or column l []) (history_stays ctx first n (moment ctx r c) h)
 
--- the newest column is made by the rule
-newest_column : (ctx : Context) (first : FirstColumns) (n lane : ℕ) → lane < ctx.p_cost
-    → slice_index_or (slice_index_or (history ctx first (suc n)) n []) lane []
-    ≡ rule ctx first (in_history ctx (history ctx first n)) (n / lane_length ctx) lane (n % lane_length ctx)
-unfolding history
-newest_column ctx first n lane h =
-    let f : ℕ → List ℕ =
-    λ l. rule ctx first (in_history ctx (history ctx first n)) (n / lane_length ctx) l (n % lane_length ctx) in
-    ap (λ (column : List (List ℕ)). slice_index_or column lane [])
-    (get_or_push (history ctx first n) (map f (range_with_len 0 ctx.p_cost)) [] n (length-history ctx first n))
-    ∙ get_or-map-range_with_len f 0 ctx.p_cost lane lane [] h (omega arith)
-
 -- each block is as the rule says
 pub recurrence : (ctx : Context) → Sizes ctx → (first : FirstColumns) (pass lane column : ℕ)
     → lane < ctx.p_cost → column < lane_length ctx
     → block_of ctx first pass lane column ≡ rule ctx first (block_of ctx first) pass lane column
-unfolding block_of in_history
+unfolding block_of in_history history
 recurrence ctx sizes first pass lane column in_lanes in_columns =
     let q = lane_length ctx in
     let n = moment ctx pass column in
-    let f = in_history ctx (history ctx first n) in
-    newest_column ctx first n lane in_lanes
-    ∙ ap (λ r. rule ctx first f r lane (n % q)) (div-mul-add pass q column in_columns)
-    ∙ ap (λ c. rule ctx first f pass lane c) (mod-mul-add pass q column in_columns)
-    ∙ rule_cong ctx sizes first pass lane column in_lanes in_columns f (block_of ctx first)
-    (λ r l c _ _ lt. in_history_is ctx first n r l c lt)
+    let before = in_history ctx (history ctx first n) in
+    let made = λ (l : ℕ). rule ctx first before (n / q) l (n % q) in
+    ap (λ (column : List (List ℕ)). slice_index_or column lane [])
+    (get_or_push (history ctx first n) (map made (range_with_len 0 ctx.p_cost)) [] n (length-history ctx first n))
+    ∙ get_or-map-range_with_len made 0 ctx.p_cost lane lane [] in_lanes (omega arith)
+    ∙ rw (div-mul-add pass q column in_columns, mod-mul-add pass q column in_columns)
+    (rule_cong ctx sizes first pass lane column in_lanes in_columns before (block_of ctx first)
+    (λ r l c _ _ lt. in_history_is ctx first n r l c lt))
 
 -- two recurrences agree up to any moment
 pub recurrence_unique_up_to : (ctx : Context) → Sizes ctx → (first : FirstColumns) (f g : Blocks)

@@ -121,30 +121,19 @@ module _ (ctx : Context) (sizes : Sizes ctx) (column : ℕ) (in_columns : column
       → (slice_index_or (permitted ctx pass lane column other) i (0, 0)).1
       ≡ finished_column ctx pass (column / segment_length ctx) i
   unfolding permitted
-  get_or-permitted pass lane other i =
+  get_or-permitted pass lane other i h =
       let s = segment_length ctx in
-      let slice = column / s in
-      let f = finished_segments ctx pass slice in
-      let n = length-finished pass in
-      let here = bounds in
-      let Stands = λ (xs : List (ℕ × ℕ)). i < length xs → (slice_index_or xs i (0, 0)).1 ≡ finished_column ctx pass slice i in
-      cond_both (column % s == 0) _ _ Stands
-      (λ e (h : i < length (take (length f - 1) f)).
-      let room : i < length f - 1 = omega (arith, length-take (length f - 1) f) in
-      ap (λ (x : ℕ × ℕ). x.1) (get_or-take (length f - 1) f i (0, 0) room) ∙ get_or-finished pass i (omega arith))
-      (λ e. cond_both (other == lane) _ _ (λ own. Stands (f ++ own))
-      (λ o h.
-      let own = columns pass (slice * s) (column - 1) in
-      let all : length (f ++ own) ≡ length f + length own = length-append f own in
-      let size : length own ≡ column - 1 - slice * s = length-columns pass (slice * s) (column - 1) in
-      elim (cases_lt i (length f)) [
-        | inl lt ↦ (ap (λ (x : ℕ × ℕ). x.1) (get_or_append_left f own (0, 0) i lt) ∙ get_or-finished pass i lt)
-        | inr le ↦ (
-            ap (λ (x : ℕ × ℕ). x.1) (get_or-append_right f own (length f) i (0, 0) refl le)
-            ∙ get_or-columns pass (slice * s) (column - 1) (i - length f) (omega arith)
-            ∙ ap (λ n. slice * s + (i - n)) n ∙ wraps pass i (omega arith))
-      ])
-      (λ o h.
+      let f = finished_segments ctx pass (column / s) in
+      let own = columns pass (column / s * s) (column - 1) in
       let nil : List (ℕ × ℕ) = [] in
-      let all : length (f ++ nil) ≡ length f + 0 = length-append f nil in
-      ap (λ (x : ℕ × ℕ). x.1) (get_or_append_left f nil (0, 0) i (omega arith)) ∙ get_or-finished pass i (omega arith)))
+      let n = length-finished pass in
+      let all = length-append f own in
+      let same = length-append f nil in
+      let size = length-columns pass (column / s * s) (column - 1) in
+      let front = length-take (length f - 1) f in
+      let taken = get_or-take (length f - 1) f i (0, 0) in
+      let left = get_or_append_left f own (0, 0) i in
+      let right = get_or-append_right f own (length f) i (0, 0) refl in
+      let alone = get_or_append_left f nil (0, 0) i in
+      let side = cases_lt i (length f) in
+      grind (arith, bounds, get_or-finished pass i, get_or-columns pass (column / s * s) (column - 1) (i - length f), wraps pass i, nat_tests)

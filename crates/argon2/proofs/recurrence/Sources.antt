@@ -39,16 +39,10 @@ module _ (ctx : Context) (sizes : Sizes ctx) (lane column other : ℕ) (in_lanes
   finished_sources : (pass : ℕ)
       → All (IsSource pass) (finished_segments ctx pass (column / segment_length ctx))
   unfolding finished_segments
-  finished_sources zero = All-columns (IsSource zero) 0 0 _ (λ c low high.
-      let b = bounds in
-      record { in_lanes = in_lanes; in_columns = omega arith; newest = inl (refl, omega arith); apart = inr (inl high) })
+  finished_sources zero = All-columns (IsSource zero) 0 0 _ (λ c low high. let b = bounds in grind arith)
   finished_sources (suc pass) = All-append (IsSource (suc pass)) _ _
-      (All-columns (IsSource (suc pass)) pass _ _ (λ c low high.
-      let b = bounds in
-      record { in_lanes = in_lanes; in_columns = high; newest = inr (refl, omega arith); apart = inr (inr low) }))
-      (All-columns (IsSource (suc pass)) (suc pass) 0 _ (λ c low high.
-      let b = bounds in
-      record { in_lanes = in_lanes; in_columns = omega arith; newest = inl (refl, omega arith); apart = inr (inl high) }))
+      (All-columns (IsSource (suc pass)) pass _ _ (λ c low high. let b = bounds in grind arith))
+      (All-columns (IsSource (suc pass)) (suc pass) 0 _ (λ c low high. let b = bounds in grind arith))
 
   -- all permitted blocks are sources
   permitted_sources : (pass : ℕ) → All (IsSource pass) (permitted ctx pass lane column other)
@@ -56,10 +50,7 @@ module _ (ctx : Context) (sizes : Sizes ctx) (lane column other : ℕ) (in_lanes
   permitted_sources pass = cond_both (column % segment_length ctx == 0) _ _ (All (IsSource pass))
       (λ _. All-take (IsSource pass) _ _ (finished_sources pass))
       (λ _. All-append (IsSource pass) _ _ (finished_sources pass) (cond_both (other == lane) _ [] (All (IsSource pass))
-      (λ e. All-columns (IsSource pass) pass _ _ (λ c low high.
-      let b = bounds in
-      let own = eqb-true other lane e in
-      record { in_lanes = in_lanes; in_columns = omega arith; newest = inl (refl, omega arith); apart = inl own }))
+      (λ e. All-columns (IsSource pass) pass _ _ (λ c low high. let b = bounds in let own = eqb-true other lane e in grind arith))
       (λ _. All-nil (IsSource pass))))
 
 -- ---- each block is made of its sources alone
@@ -96,15 +87,8 @@ reference_reads ctx sizes pass lane column w st =
 -- a source is in a place for the step
 pub Reads-place : (ctx : Context) → Sizes ctx → (pass lane column r l c : ℕ)
     → Reads ctx pass lane column r l c → IsPlaceFor ctx lane column l c
-Reads-place ctx sizes pass lane column r l c reads = record {
-  in_lanes = reads.in_lanes;
-  in_columns = reads.in_columns;
-  apart = elim reads.apart [
-    | inl own ↦ inl own
-    | inr other ↦ inr (λ same.
-        let here = rw same at (in_slice (segment_length ctx) c sizes.two_columns reads.in_columns) in grind arith)
-  ];
-}
+Reads-place ctx sizes pass lane column r l c reads =
+    let here = in_slice (segment_length ctx) c sizes.two_columns reads.in_columns in grind arith
 
 -- blocks f and g agree wherever the block of pass, lane and column may be made of them
 abbrev pub AgreeOn : (ctx : Context) (pass lane column : ℕ) → Blocks → Blocks → Type 0
@@ -115,15 +99,9 @@ previous_cong : (ctx : Context) → Sizes ctx → (pass lane column : ℕ)
     → IsStep ctx pass lane column → (f g : Blocks) → AgreeOn ctx pass lane column f g
     → previous ctx f pass lane column ≡ previous ctx g pass lane column
 unfolding previous
-previous_cong ctx sizes zero lane zero st f g h = absurd (let two : 2 ≤ zero = st.later refl in omega arith)
-previous_cong ctx sizes (suc pass) lane zero st f g h =
-    let two = sizes.two_columns in
-    h (suc pass - 1) lane (lane_length ctx - 1)
-    (record { in_lanes = st.in_lanes; in_columns = omega arith; newest = inr (omega arith, omega arith); apart = inl refl })
-previous_cong ctx sizes pass lane (suc column) st f g h =
-    let below : suc column < lane_length ctx = st.in_columns in
-    h pass lane column
-    (record { in_lanes = st.in_lanes; in_columns = omega arith; newest = inl (refl, omega arith); apart = inl refl })
+previous_cong ctx sizes pass lane zero st f g h =
+    let two = sizes.two_columns in h (pass - 1) lane (lane_length ctx - 1) (grind arith)
+previous_cong ctx sizes pass lane (suc column) st f g h = h pass lane column (grind arith)
 
 -- such blocks have one reference
 pub reference_of_cong : (ctx : Context) → Sizes ctx → (pass lane column : ℕ)
@@ -143,6 +121,5 @@ made_cong ctx sizes pass lane column st f g h =
     let previous = previous_cong ctx sizes pass lane column st f g h in
     let read = h from.pass from.lane from.column
     (reference_reads ctx sizes pass lane column (reference_word ctx f pass lane column) st) in
-    let own : 0 < pass → f (pass - 1) lane column ≡ g (pass - 1) lane column = λ some. h (pass - 1) lane column
-    (record { in_lanes = st.in_lanes; in_columns = st.in_columns; newest = inr (omega arith, omega arith); apart = inl refl }) in
+    let own : 0 < pass → f (pass - 1) lane column ≡ g (pass - 1) lane column = λ some. h (pass - 1) lane column (grind arith) in
     grind (arith, nat_tests)

@@ -3,11 +3,6 @@ use Rattle.argon2.proofs.context_lemmas.SegmentColumns.{slice_of_column}
 use Rattle.argon2.proofs.recurrence.PermittedPlaces.{InSlice, in_slice}
 use Rattle.argon2.proofs.context.instance.Instance.block.Goals as goal
 
--- a column is that of its index in its slice
-index_in : (s column slice : ℕ) → InSlice s column slice
-    → (column - slice * s < s) × (slice * s + (column - slice * s) ≡ column)
-index_in s column slice here = let low = here.above in let high = here.below in (omega arith, omega arith)
-
 pub returns-then-slice-at : goal.returns-then-slice-at
 returns-then-slice-at c = λ memory parts.
     let ctx = c.args.self.now in
@@ -16,13 +11,10 @@ returns-then-slice-at c = λ memory parts.
     let is = sym c.if-slice-at.true ∙ c.slice_of-slice.ensures in
     let s = segment_length ctx in
     let two = c.segment_length.ensures.sizes.two_columns in
-    let here = index_in s column at.slice (rw (← is) at (in_slice s column two c.requires.place.in_columns)) in
-    let own : c.args.lane ≡ at.lane = elim c.requires.place.apart [
-      | inl e ↦ e
-      | inr ne ↦ absurd (ne (sym is ∙ sym (slice_of_column ctx at c.requires.in_segment)))
-    ] in
-    rw (c.if-slice-at.true, c.segment_length.ensures.value, own) (parts.in_own (column - at.slice * s) here.0
-    ∙ ap (λ n. slice_index_or memory (at.lane * lane_length ctx + n) []) here.1)
+    let here = rw (← is) at (in_slice s column two c.requires.place.in_columns) in
+    let own : c.args.lane ≡ at.lane =
+    grind (arith, is, c.requires.place.apart, slice_of_column ctx at c.requires.in_segment) in
+    rw (c.if-slice-at.true, c.segment_length.ensures.value, own) (grind (arith, parts.in_own (column - at.slice * s)))
 
 pub returns-then-slice-at-2 : goal.returns-then-slice-at-2
 returns-then-slice-at-2 c = λ memory parts.
