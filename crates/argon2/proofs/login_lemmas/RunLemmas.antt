@@ -1,9 +1,10 @@
 -- What each call keeps of a name, and so every list of calls.
 use Rattle.argon2.proofs.Imports.{arith, ◌≡◌, ◌≢◌, ℕ, ◌≤◌, List, [], ◌∷◌, length, Option, Some, None, Result, Ok, Err, refl, ap, ◌∙◌, bytes_eq-Decides, IfSome, IsSomeAnd, get, get-empty}
 use Rattle.argon2.proofs.Imports.{slice_cmp, nat_cmp, Phc, IsPhc, HasBytes, phc_text, Accepted, Current, Rehashed, Kept, LoginError, AcceptsBy, Accepts, Event, adding, logging_in, AddStep}
-use Rattle.argon2.proofs.Imports.{LoginAnswer, LoginStep, IsCurrent, Store, newest, Target, hash_value}
+use Rattle.argon2.proofs.Imports.{LoginAnswer, LoginStep, IsCurrent, Store, newest, Target, IsTarget, hash_value}
 use Rattle.argon2.specs.Runs.{Run, source, accepted, IsFrom}
 use Rattle.argon2.proofs.login_lemmas.Stores.{get-set}
+use Rattle.argon2.proofs.password_hash_lemmas.MadeValues.{made_accepts, made_is_phc, made_shows}
 
 -- what is known of the text of a name after an accepted login
 abbrev Reached : Target → Option (List ℕ × Accepted) → Option Phc → Type 0
@@ -16,11 +17,7 @@ abbrev Known : Target → List ℕ → List Event → Option Phc → Type 0
 Known target name events o = IsFrom target (newest (source name) events) o × IfSome o IsPhc
     × Reached target (newest (accepted name) events) o
 
-module _ (target : Target)
-    (made_phc : (password salt : List ℕ) → HasBytes 8 48 salt → IsPhc (hash_value target password salt))
-    (made_accepts : (password salt : List ℕ) → length password ≤ 4294967295 →
-    AcceptsBy target.secret password (hash_value target password salt))
-    (made_current : (password salt : List ℕ) → IsCurrent target (hash_value target password salt)) where
+module _ (target : Target) (fits : IsTarget target) where
   add_keeps : (before after : Store) (n added : List ℕ) (answer : Result (Unit {0}) LoginError) (older : List Event) →
       AddStep before n added answer after → ((name : List ℕ) → Known target name older (get before name)) →
       (name : List ℕ) → Known target name (adding n added answer ∷ older) (get after name)
@@ -46,28 +43,19 @@ module _ (target : Target)
   login_keeps before after n given drawn (Some v) (Ok Rehashed) older is step known name =
       let set = ap (λ m. get m name) step.1.2 ∙ get-set before n (hash_value target given drawn) name in
       let here = known name in
-      let made = made_phc given drawn step.1.1 in
-      let accepts = made_accepts given drawn step.0.short in
-      let current = made_current given drawn in
+      let made = made_is_phc target fits given drawn step.1.1 in
+      let accepts = made_accepts target fits given drawn step.0.short in
+      let current = made_shows target fits given drawn _ refl in
       grind arith
 
-  step_keeps : (before after : Store) (event : Event) (older : List Event) → LoginStep target before event after →
-      ((name : List ℕ) → Known target name older (get before name)) →
-      (name : List ℕ) → Known target name (event ∷ older) (get after name)
-  step_keeps before after (adding n added answer) older step = add_keeps before after n added answer older step
-  step_keeps before after (logging_in n given drawn answer) older step =
-      login_keeps before after n given drawn (get before n) answer older refl step
-
-  all_known : (events : List Event) (store : Store) → Run target events store →
+  -- what is known of a name's text after any calls
+  pub all_known : (events : List Event) (store : Store) → Run target events store →
       (name : List ℕ) → Known target name events (get store name)
   all_known [] store run name = rw (run, get-empty (slice_cmp nat_cmp) name) (tt, tt, tt)
-  all_known (event ∷ older) store run name =
-      step_keeps run.0 store event older run.2 (all_known older run.0 run.1) name
-
-  -- where the text is from
-  pub texts_from : (events : List Event) (store : Store) → Run target events store →
-      (name : List ℕ) → IsFrom target (newest (source name) events) (get store name)
-  texts_from events store run name = (all_known events store run name).0
+  all_known (adding n added answer ∷ older) store run name =
+      add_keeps run.0 store n added answer older run.2 (all_known older run.0 run.1) name
+  all_known (logging_in n given drawn answer ∷ older) store run name =
+      login_keeps run.0 store n given drawn (get run.0 n) answer older refl run.2 (all_known older run.0 run.1) name
 
   after_last : (o : Option Phc) (given : List ℕ) (did : Accepted) → IfSome o IsPhc → Reached target (Some (given, did)) o →
       IsSomeAnd o (λ v. Accepts target.secret given (phc_text v)) × (did ≢ Kept → IsSomeAnd o (IsCurrent target))

@@ -1,5 +1,5 @@
-use Rattle.argon2.proofs.Imports.{inl, refl, sym, Err, fill_bytes, phc_of, secret_of, target_value}
-use Rattle.argon2.proofs.login_lemmas.LoginLemmas.{leaves_accepts, leaves_current, leaves_step, refused_text}
+use Rattle.argon2.proofs.Imports.{inl, refl, rules, sym, Err, fill_bytes, phc_of, secret_of, target_value}
+use Rattle.argon2.proofs.login_lemmas.LoginLemmas.{refused_text, text_left}
 use Rattle.argon2.proofs.login_lemmas.Stores.{insert-same}
 use Rattle.argon2.proofs.password_hash_lemmas.Verified.{exact}
 use Rattle.argon2.proofs.login.target.Target.log_in_text.Goals as goal
@@ -20,35 +20,18 @@ returns-in-Err-log_in-clause-accepted g c =
     (Err c.in-Err-log_in.e)
     (c.in-Err-log_in.ensures.step v (sym c.in-Ok.ensures)))
 
-pub returns-in_default-clause-step : goal.returns-in_default-clause-step
-returns-in_default-clause-step g c = λ store name has.
-    let step = rw c.in_default.is at (c.in-Ok-log_in.ensures.step (phc_of c.args.text.now) (sym c.in-Ok.ensures)) in
-    (step.0, leaves_step (target_value c.args.self.now) store name _ _ _ _ c.in-Ok-log_in.done.accepted has step.1)
-
-pub returns-in_default-clause-current : goal.returns-in_default-clause-current
-returns-in_default-clause-current g c =
+pub returns-in_default : goal.returns-in_default
+returns-in_default g c =
     let v = phc_of c.args.text.now in
     let step = rw c.in_default.is at (c.in-Ok-log_in.ensures.step v (sym c.in-Ok.ensures)) in
-    leaves_current (target_value c.args.self.now) c.args.self.now.fits c.args.password.now _ v v
-    c.in-Ok-log_in.done.accepted step.1
+    let left = text_left (target_value c.args.self.now) c.args.self.now.fits c.args.password.now _ v v
+    c.in-Ok-log_in.done.accepted step in
+    record { step = left.0; accepted = left.1; current = left.2; drawn = search rules }
 
-pub returns-clause-step : goal.returns-clause-step
-returns-clause-step g c = λ store name has.
-    let step = rw c.in-Some.is at (c.in-Ok-log_in.ensures.step (phc_of c.args.text.now) (sym c.in-Ok.ensures)) in
-    (step.0, leaves_step (target_value c.args.self.now) store name _ _ _ _ c.in-Ok-log_in.done.accepted has step.1)
-
-pub returns-clause-accepted : goal.returns-clause-accepted
-returns-clause-accepted g c =
+pub returns : goal.returns
+returns g c =
     let v = phc_of c.args.text.now in
     let step = rw c.in-Some.is at (c.in-Ok-log_in.ensures.step v (sym c.in-Ok.ensures)) in
-    leaves_accepts (target_value c.args.self.now) c.args.self.now.fits c.args.password.now
-    (fill_bytes 16 (g.R.Rng.stream c.args.rng.now)).0 v (phc_of c.in-Some.fresh) c.in-Ok-log_in.done.accepted
-    step.1 step.0
-
-pub returns-clause-current : goal.returns-clause-current
-returns-clause-current g c =
-    let v = phc_of c.args.text.now in
-    let step = rw c.in-Some.is at (c.in-Ok-log_in.ensures.step v (sym c.in-Ok.ensures)) in
-    leaves_current (target_value c.args.self.now) c.args.self.now.fits c.args.password.now
-    (fill_bytes 16 (g.R.Rng.stream c.args.rng.now)).0 v (phc_of c.in-Some.fresh) c.in-Ok-log_in.done.accepted
-    step.1
+    let left = text_left (target_value c.args.self.now) c.args.self.now.fits c.args.password.now
+    (fill_bytes 16 (g.R.Rng.stream c.args.rng.now)).0 v (phc_of c.in-Some.fresh) c.in-Ok-log_in.done.accepted step in
+    record { step = left.0; accepted = left.1; current = left.2; drawn = search rules }
