@@ -1,6 +1,6 @@
 -- The mixings of all segments are t * B - 2p, and two for each address block.
-use Rattle.argon2.proofs.Imports.{◌≡◌, ℕ, zero, suc, ◌+◌, ◌-◌, ◌*◌, ◌/◌, ◌^◌, ◌<◌, ◌≤◌, inl, inr, Bool, true, false, ap, arith, ◌==◌, if◌then◌else◌, mul-le-mul, mul-le-mul_left}
-use Rattle.argon2.proofs.Imports.{mul-le-mul_right, cases_lt, nat_tests, Context, address_counter, block_count, is_independent, lane_length, segment_length, Sizes, address_mixings}
+use Rattle.argon2.proofs.Imports.{◌≡◌, ℕ, zero, suc, ◌+◌, ◌-◌, ◌*◌, ◌/◌, ◌^◌, ◌<◌, ◌≤◌, Bool, true, false, ap, arith, ◌==◌, if◌then◌else◌, mul-le-mul, mul-le-mul_left}
+use Rattle.argon2.proofs.Imports.{mul-le-mul_right, nat_tests, Context, address_counter, block_count, is_independent, lane_length, segment_length, Sizes, address_mixings}
 use Rattle.argon2.proofs.Imports.{independent_segments, mixing_calls, segment_calls, slices_calls}
 
 -- the mixings of the first passes

@@ -1,5 +1,5 @@
 -- Writing the first two columns of a lane after those of the lanes before.
-use Rattle.argon2.proofs.Imports.{◌≡◌, ℕ, ◌+◌, ◌*◌, ◌^◌, ◌<◌, ◌≤◌, ◌≢◌, inl, inr, List, [], length, ◌∙◌, arith, slice_index_or, slice_set, common_steps, cases_eq, get_or-set_other}
+use Rattle.argon2.proofs.Imports.{◌≡◌, ℕ, ◌+◌, ◌*◌, ◌^◌, ◌<◌, ◌≤◌, List, [], length, arith, slice_index_or, slice_set, common_steps, get_or-set_other}
 use Rattle.argon2.proofs.Imports.{same_from_place, mul-le-mul_left, mul-le-mul_right, Context, lane_length, Sizes}
 
 -- a lane ends within the lanes

@@ -1,7 +1,6 @@
 -- The places that the steps record are those of the recurrence's references.
-use Rattle.argon2.proofs.Imports.{◌≡◌, ℕ, suc, ◌+◌, ◌*◌, ◌<◌, ◌≤◌, ◌≢◌, inl, inr, List, length, sym, ◌∙◌, arith, slice_set, length-set, get_or-set_same, get_or-set_other, mul-add-lt}
-use Rattle.argon2.proofs.Imports.{same_from_place, cases_eq, Context, FirstColumns, block_count, lane_length, Sizes, reference_places, IsStep, columns_before, place_count, position_index}
-use Rattle.argon2.proofs.Imports.{HasPositionsUpTo}
+use Rattle.argon2.proofs.Imports.{◌≡◌, ℕ, suc, ◌+◌, ◌*◌, ◌<◌, ◌≢◌, List, length, ◌∙◌, arith, slice_set, length-set, get_or-set_same, get_or-set_other, mul-add-lt, same_from_place, Context}
+use Rattle.argon2.proofs.Imports.{FirstColumns, block_count, lane_length, Sizes, reference_places, IsStep, columns_before, place_count, position_index, HasPositionsUpTo}
 use Rattle.argon2.proofs.context_lemmas.Filling.{turn_count-later_slice, turn_count-later_pass}
 use Rattle.argon2.proofs.context_lemmas.InMemory.{place_below}
 

@@ -38,13 +38,7 @@ turns-append lane xs ys = sum_by-append (λ y. (if y == lane then 1 else 0)) xs 
 
 -- no lane has more turns than its segment has columns
 pub turn_count-le : (ctx : Context) (pass slice : ℕ) → turn_count ctx pass slice ≤ segment_length ctx
-turn_count-le ctx pass slice =
-    cond_both ((pass == 0) && (slice == 0)) _ _ (λ x. x ≤ segment_length ctx) (λ _. omega arith) (λ _. omega arith)
-
--- in the first slice of all a lane has two turns fewer than columns
-pub turn_count-first : (ctx : Context) (pass slice : ℕ) → pass ≡ 0 → slice ≡ 0
-    → turn_count ctx pass slice ≡ segment_length ctx - 2
-turn_count-first ctx pass slice p e = grind (arith, nat_tests)
+turn_count-le ctx pass slice = grind (arith, nat_tests)
 
 -- the column of a lane's turn with n more after it
 abbrev pub turn_column : Context → ℕ → ℕ → ℕ

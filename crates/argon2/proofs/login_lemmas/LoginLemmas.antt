@@ -1,7 +1,6 @@
 -- One login as a step.
-use Rattle.argon2.proofs.Imports.{◌≡◌, refl, ℕ, List, Option, Some, None, Result, Ok, ◌⊎◌, arith, ◌≢◌, IfOk, IsSomeAnd, MatchResult, get, insert, phc_of, Phc, OutOfMemory, PasswordHash, Accepted}
-use Rattle.argon2.proofs.Imports.{Current, Kept, Rehashed, LoginError, Refused, AcceptsBy, AcceptedStep, HasPassword, LoginAnswer, LoginStep, logging_in, Store, IsCurrent, Leaves, Target}
-use Rattle.argon2.proofs.Imports.{IsTarget, hash_value, IsHashAnswer}
+use Rattle.argon2.proofs.Imports.{◌≡◌, refl, ℕ, List, Some, Ok, ◌⊎◌, arith, ◌≢◌, get, insert, phc_of, Phc, OutOfMemory, PasswordHash, Accepted, Current, Kept, Rehashed, Refused, AcceptsBy}
+use Rattle.argon2.proofs.Imports.{LoginAnswer, Store, IsCurrent, Leaves, Target, IsTarget, hash_value, IsHashAnswer}
 use Rattle.argon2_base.specs.declared.error.password_hash.Error.{Error}
 use Rattle.argon2.proofs.login_lemmas.Stores.{insert-same}
 use Rattle.argon2.proofs.password_hash_lemmas.MadeValues.{made_accepts, made_shows}
@@ -25,8 +24,8 @@ pub text_left : (target : Target) → IsTarget target → (password drawn : List
 text_left target fits password drawn v w Current left =
     (λ store name has. let same = insert-same store name v has in grind arith, rw left.1.1 left.0, λ _. grind arith)
 text_left target fits password drawn v w Rehashed left =
-    let made = left.1.1 in
-    (λ store name has. grind arith, rw made.2 (made_accepts target fits password drawn made.1),
-    λ _. made_shows target fits password drawn w made.2)
+    let accepts : AcceptsBy target.secret password w = rw left.1.1.2 (made_accepts target fits password drawn left.1.1.1) in
+    let shows = made_shows target fits password drawn w left.1.1.2 in
+    (λ store name has. grind arith, accepts, λ _. shows)
 text_left target fits password drawn v w Kept left =
     (λ store name has. let same = insert-same store name v has in grind arith, rw left.1.1 left.0, λ no. absurd (no refl))

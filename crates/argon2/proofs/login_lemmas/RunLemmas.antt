@@ -1,7 +1,7 @@
 -- What each call keeps of a name, and so every list of calls.
-use Rattle.argon2.proofs.Imports.{arith, ◌≡◌, ◌≢◌, ℕ, ◌≤◌, List, [], ◌∷◌, length, Option, Some, None, Result, Ok, Err, refl, ap, ◌∙◌, bytes_eq-Decides, IfSome, IsSomeAnd, get, get-empty}
-use Rattle.argon2.proofs.Imports.{slice_cmp, nat_cmp, Phc, IsPhc, HasBytes, phc_text, Accepted, Current, Rehashed, Kept, LoginError, AcceptsBy, Accepts, Event, adding, logging_in, AddStep}
-use Rattle.argon2.proofs.Imports.{LoginAnswer, LoginStep, IsCurrent, Store, newest, Target, IsTarget, hash_value}
+use Rattle.argon2.proofs.Imports.{arith, ◌≡◌, ◌≢◌, ℕ, List, [], ◌∷◌, Option, Some, None, Result, Ok, Err, refl, ap, ◌∙◌, bytes_eq-Decides, IfSome, IsSomeAnd, get, get-empty}
+use Rattle.argon2.proofs.Imports.{slice_cmp, nat_cmp, Phc, IsPhc, phc_text, Accepted, Current, Rehashed, Kept, LoginError, AcceptsBy, Accepts, Event, adding, logging_in, AddStep}
+use Rattle.argon2.proofs.Imports.{LoginAnswer, IsCurrent, Store, newest, Target, IsTarget, hash_value}
 use Rattle.argon2.specs.Runs.{Run, source, accepted, IsFrom}
 use Rattle.argon2.proofs.login_lemmas.Stores.{get-set}
 use Rattle.argon2.proofs.password_hash_lemmas.MadeValues.{made_accepts, made_is_phc, made_shows}

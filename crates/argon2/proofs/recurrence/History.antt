@@ -1,6 +1,6 @@
 -- The blocks satisfy the recurrence, and they alone do.
-use Rattle.argon2.proofs.Imports.{◌≡◌, ℕ, zero, suc, ◌+◌, ◌*◌, ◌/◌, ◌%◌, ◌<◌, ◌≤◌, inl, inr, ◌&&◌, List, [], map, length, refl, sym, ap, ◌∙◌, arith, slice_index_or, nat_lt, ◌==◌, range_with_len}
-use Rattle.argon2.proofs.Imports.{get_or_append_left, length_push, get_or_push, get_or-map-range_with_len, div-mul-add, mod-mul-add, cases_Bool, cases_lt, nat_tests, Blocks, Context}
+use Rattle.argon2.proofs.Imports.{◌≡◌, ℕ, zero, suc, ◌+◌, ◌*◌, ◌/◌, ◌%◌, ◌<◌, ◌≤◌, inl, inr, List, [], map, length, refl, sym, ap, ◌∙◌, arith, slice_index_or, range_with_len}
+use Rattle.argon2.proofs.Imports.{get_or_append_left, length_push, get_or_push, get_or-map-range_with_len, div-mul-add, mod-mul-add, cases_lt, nat_tests, Blocks, Context}
 use Rattle.argon2.proofs.Imports.{FirstColumns, block_of, history, in_history, lane_length, made_block, rule, Sizes, IsStep, IsRecurrence}
 use Rattle.argon2.proofs.recurrence.Sources.{AgreeOn, made_cong}
 

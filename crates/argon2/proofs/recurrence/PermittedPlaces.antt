@@ -1,7 +1,7 @@
 -- What may be referred to, as numbers: how many blocks, and in which columns.
-use Rattle.argon2.proofs.Imports.{◌≡◌, ℕ, zero, suc, ◌+◌, ◌-◌, ◌*◌, ◌/◌, ◌%◌, ◌<◌, ◌≤◌, inl, inr, List, [], ◌++◌, take, length, refl, ap, ◌∙◌, arith, slice_index_or, nat_lt, ◌==◌}
+use Rattle.argon2.proofs.Imports.{◌≡◌, ℕ, zero, suc, ◌+◌, ◌-◌, ◌*◌, ◌/◌, ◌%◌, ◌<◌, ◌≤◌, List, [], ◌++◌, length, refl, ap, ◌∙◌, arith, slice_index_or, nat_lt, ◌==◌}
 use Rattle.argon2.proofs.Imports.{if◌then◌else◌, mul-le-mul_right, div-lt_iff_lt-mul, div-mul-le_self, lt-mul-div-succ, range_with_len, length-map, length-take, get_or_append_left}
-use Rattle.argon2.proofs.Imports.{get_or-append_right, get_or-take, get_or-map-range_with_len, length-range_with_len, nat_tests, cond_both, cases_lt, Context, columns, finished_segments}
+use Rattle.argon2.proofs.Imports.{get_or-append_right, get_or-take, get_or-map-range_with_len, length-range_with_len, nat_tests, cases_lt, Context, columns, finished_segments}
 use Rattle.argon2.proofs.Imports.{lane_length, permitted, segment_length, Sizes}
 use Rattle.std.proofs.Math.Nat.{div-add-mod'}
 use Rattle.std.proofs.lemmas.List.{length-append}

@@ -1,5 +1,5 @@
 -- Which blocks a block is made of. All else rests on two laws, `reference_reads` and `made_cong`.
-use Rattle.argon2.proofs.Imports.{◌≡◌, ℕ, zero, suc, ◌+◌, ◌-◌, ◌*◌, ◌/◌, ◌%◌, ◌^◌, ◌<◌, ◌≤◌, ◌⊎◌, inl, inr, [], length, refl, sym, subst, arith, ◌==◌, mod-lt, range_with_len, All}
+use Rattle.argon2.proofs.Imports.{◌≡◌, ℕ, zero, suc, ◌+◌, ◌-◌, ◌*◌, ◌/◌, ◌%◌, ◌^◌, ◌<◌, ◌≤◌, ◌⊎◌, [], length, refl, sym, subst, arith, ◌==◌, mod-lt, range_with_len, All}
 use Rattle.argon2.proofs.Imports.{length-range_with_len, get_or-range_with_len, cond_both, eqb-true, nat_tests, Blocks, Context, columns, finished_segments, lane_length, made_block}
 use Rattle.argon2.proofs.Imports.{permitted, previous, reference, reference_index, reference_lane, reference_of, reference_word, segment_length, Sizes, IsPlaceFor, IsStep}
 use Rattle.std.proofs.lemmas.List.Elements.{All-map, All-append, All-take, All-get_or, All-nil}

@@ -1,5 +1,4 @@
-use Rattle.argon2.proofs.Imports.{refl, subst, sym, ap, ◌∙◌, Some, None, Err, inr, btree_map_updates_text, get, fill_bytes, phc_of, NameUnknown, LoginAnswer, store_of, login_target}
-use Rattle.argon2.proofs.Imports.{values_of}
+use Rattle.argon2.proofs.Imports.{refl, sym, ap, ◌∙◌, Some, None, inr, btree_map_updates_text, get, phc_of, values_of}
 use Rattle.argon2.proofs.login_lemmas.Stores.{get-found, get-other, get-same, values_of-set}
 use Rattle.argon2.proofs.login.Login.login.Goals as goal
 

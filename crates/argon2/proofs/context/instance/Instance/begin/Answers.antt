@@ -1,4 +1,4 @@
-use Rattle.argon2.proofs.Imports.{◌≡◌, ◌+◌, ◌*◌, ◌<◌, length, map, ap, refl, sym, ◌∙◌, arith, rules, slice_set, length-map, map-set, block_after, first_block}
+use Rattle.argon2.proofs.Imports.{◌≡◌, ◌+◌, ◌*◌, ◌<◌, length, map, ap, sym, ◌∙◌, arith, slice_set, length-map, map-set, block_after, first_block}
 use Rattle.argon2.proofs.context_lemmas.FirstColumns.{lane_within, with_pair, with_pair-lanes, with_pair-other}
 use Rattle.argon2.proofs.context.instance.Instance.begin.Goals as goal
 

@@ -1,6 +1,6 @@
-use Rattle.argon2.proofs.Imports.{◌≡◌, ℕ, ◌+◌, ◌-◌, ◌*◌, ◌<◌, [], inl, inr, ap, sym, ◌∙◌, add-one, arith, slice_index_or, lane_length, segment_length}
+use Rattle.argon2.proofs.Imports.{◌≡◌, ◌-◌, ◌*◌, sym, ◌∙◌, add-one, arith, segment_length}
 use Rattle.argon2.proofs.context_lemmas.SegmentColumns.{slice_of_column}
-use Rattle.argon2.proofs.recurrence.PermittedPlaces.{InSlice, in_slice}
+use Rattle.argon2.proofs.recurrence.PermittedPlaces.{in_slice}
 use Rattle.argon2.proofs.context.instance.Instance.block.Goals as goal
 
 pub returns-then-slice-at : goal.returns-then-slice-at

@@ -1,5 +1,4 @@
-use Rattle.argon2.proofs.Imports.{◌≡◌, ◌*◌, drop, map, take, refl, ap, ◌∙◌, add-one, arith, rules, length-map, length-take-le, block_count, first_block, matrix_of, blocks_of, segment_calls}
-use Rattle.argon2.proofs.Imports.{slices_calls}
+use Rattle.argon2.proofs.Imports.{◌≡◌, drop, map, take, ap, ◌∙◌, add-one, arith, rules, length-map, length-take-le, block_count, first_block, matrix_of, blocks_of, slices_calls}
 use Rattle.argon2.proofs.LentMemory.{has_matrix, lanes_begin, words_behind}
 use Rattle.argon2.proofs.context_lemmas.Counts.{calls_before-few, passes_calls, passes_calls-all}
 use Rattle.argon2.proofs.context_lemmas.InOrder.{filled_first, filled_last, filled_next, in_order-first, in_order-last, in_order-next, IsFilledUpTo-like}

@@ -1,4 +1,4 @@
-use Rattle.argon2.proofs.Imports.{◌≡◌, ◌+◌, ◌-◌, ◌*◌, ◌/◌, refl, ap, ◌∙◌, arith, segment_length, addresses_at, address_mixings, columns_before, segment_calls}
+use Rattle.argon2.proofs.Imports.{◌≡◌, ◌+◌, ◌-◌, ◌*◌, ◌/◌, ◌∙◌, arith, segment_length, columns_before, segment_calls}
 use Rattle.argon2.proofs.recurrence.Addresses.{first_mixings, same_addresses, same_mixings}
 use Rattle.argon2.proofs.context_lemmas.InOrder.{filled_step}
 use Rattle.argon2.proofs.context_lemmas.SegmentColumns.{a_column, a_step}
@@ -13,11 +13,11 @@ loop-index-init g c =
     let begins : columns_before ctx c.args.pass c.args.slice ≡ c.args.slice * segment_length ctx + c.first_index-start.result =
     omega arith in
     let serves : 0 / 128 ≡ (c.first_index-start.result - 1) / 128 = omega arith in
+    let mixings = same_mixings ctx c.args.pass c.args.slice 0 (c.first_index-start.result - 1) serves in
     record {
       filled = λ first old is. rw (← begins) is;
       addresses = c.addresses-addresses.ensures.block ∙ same_addresses ctx c.args.pass c.args.lane c.args.slice _ _ serves;
-      watched = grind (arith, c.addresses-addresses.ensures.work, first_mixings,
-          same_mixings ctx c.args.pass c.args.slice 0 (c.first_index-start.result - 1) serves);
+      watched = grind (arith, c.addresses-addresses.ensures.work, first_mixings, mixings);
     }
 
 pub loop-index-preserved : goal.loop-index-preserved

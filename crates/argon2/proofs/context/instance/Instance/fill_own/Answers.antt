@@ -1,4 +1,4 @@
-use Rattle.argon2.proofs.Imports.{◌≡◌, ◌+◌, ◌-◌, ◌*◌, ◌/◌, ◌<◌, refl, ap, ◌∙◌, arith, nat_tests, segment_length, addresses_at, step, columns_before}
+use Rattle.argon2.proofs.Imports.{◌≡◌, ◌+◌, ◌-◌, ◌*◌, ◌/◌, ◌<◌, refl, ◌∙◌, arith, nat_tests, segment_length, columns_before}
 use Rattle.argon2.proofs.recurrence.Addresses.{same_addresses}
 use Rattle.argon2.proofs.context_lemmas.Filling.{HasBlocksUpTo-like}
 use Rattle.argon2.proofs.context_lemmas.SegmentColumns.{a_column, a_step, in_lane}
@@ -16,8 +16,9 @@ loop-index-init c =
     let serves : 0 / 128 ≡ (c.first_index-start.result - 1) / 128 = omega arith in
     record {
       size = refl;
-      filled = λ first memory parts is. (memory, (parts, rw (← begins) (HasBlocksUpTo-like ctx first c.args.pass _ _ memory
-          (λ l _. ahead-first ctx c.args.pass c.args.slice c.args.lane l) is)));
+      filled = λ first memory parts is.
+          let like = HasBlocksUpTo-like ctx first c.args.pass _ _ memory (λ l _. ahead-first ctx c.args.pass c.args.slice c.args.lane l) in
+          (memory, (parts, rw (← begins) (like is)));
       addresses = c.addresses-addresses.ensures.block ∙ same_addresses ctx c.args.pass c.args.lane c.args.slice _ _ serves;
     }
 
@@ -41,8 +42,8 @@ loop-index-preserved c =
       size = c.step_own.ensures.size ∙ before.size;
       filled = λ first memory parts is.
           let m = before.filled first memory parts is in
-          (_, (c.step_own.ensures.step m.0 m.1.1.size m.1.0,
-          rw (← end) (ahead_step ctx st.sizes first pass slice lane column m.0 st.step (a_column ctx _ st) m.1.1)));
+          let ahead = ahead_step ctx st.sizes first pass slice lane column m.0 st.step (a_column ctx _ st) m.1.1 in
+          (_, (c.step_own.ensures.step m.0 m.1.1.size m.1.0, rw (← end) ahead));
       addresses = c.renew.ensures.block;
     })
 

@@ -1,4 +1,4 @@
-use Rattle.argon2.proofs.Imports.{arith, rules}
+use Rattle.argon2.proofs.Imports.{rules}
 use Rattle.argon2.proofs.params_lemmas.Named.{algorithm_named-no, version_numbered-no}
 use Rattle.argon2.proofs.password_hash.stored.Settings.with_params.Goals as goal
 
