@@ -1,4 +1,3 @@
-pub mod InitialHashing
 mod LentMemory
 pub mod params_lemmas
 pub mod login_lemmas

@@ -1,6 +1,15 @@
-use Rattle.argon2.proofs.Imports.{ap, arith, Context}
-use Rattle.argon2.proofs.InitialHashing.{initial_hash_of_pieces}
+use Rattle.argon2.proofs.Imports.{◌≡◌, ℕ, ◌++◌, List, [], ap, arith, blake2b, Context, initial_hash, number, with_length}
 use Rattle.argon2.proofs.context.instance.Instance.initial_hash.Goals as goal
+
+-- ten pieces, one after the other, are the initial hash's message
+initial_hash_of_pieces : (ctx : Context) (password salt : List ℕ) (n p m t v y len : ℕ) (secret associated hash : List ℕ)
+    → p ≡ ctx.p_cost → m ≡ ctx.m_cost → t ≡ ctx.t_cost → v ≡ ctx.version → y ≡ ctx.algorithm
+    → secret ≡ ctx.secret → associated ≡ ctx.associated
+    → hash ≡ blake2b len (((((((((([] ++ number p) ++ number n) ++ number m) ++ number t) ++ number v) ++ number y)
+    ++ with_length password) ++ with_length salt) ++ with_length secret) ++ with_length associated) → len ≡ 64
+    → hash ≡ initial_hash ctx password salt n
+unfolding initial_hash
+initial_hash_of_pieces ctx password salt n p m t v y len secret associated hash ep em et ev ey es ea e l = cc
 
 pub returns : goal.returns
 returns c =
