@@ -2,4 +2,3 @@ pub mod ListReading
 pub mod ListedLemmas
 pub mod Named
 pub mod ReadAgain
-pub mod ValuesRead

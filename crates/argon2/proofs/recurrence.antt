@@ -1,4 +1,3 @@
-pub mod Addresses
 pub mod History
 pub mod Independence
 pub mod PermittedPlaces

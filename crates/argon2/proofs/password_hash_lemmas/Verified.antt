@@ -1,8 +1,14 @@
 -- Verifying answers Ok exactly if the value accepts.
 use Rattle.argon2.proofs.Imports.{◌≡◌, ℕ, true, List, length, Result, Ok, Err, inl, inr, ◌⊎◌, refl, arith, nat_tests, le-leb, bytes_eq-Decides, MatchResult, OutOfMemory, Phc, AcceptsBy}
-use Rattle.argon2.proofs.Imports.{IsVerifyAnswer, is_tag, verify_outcome, stored_of, tag_of, context_with}
+use Rattle.argon2.proofs.Imports.{IsVerifyAnswer, is_tag, verify_outcome, stored_of, tag_of, context_with, Option, option_map, Fault, Pair, Parameters, Settings, params_of, result_and_then}
+use Rattle.argon2.proofs.Imports.{shown_settings}
 use Rattle.argon2_base.specs.declared.error.password_hash.Error.{Error}
-use Rattle.argon2.proofs.password_hash_lemmas.Answered.{read_ok}
+
+-- what is read is read of something
+read_ok : {X Y : Type 0} (r : Result X Fault) (next : X → Result Y Fault) (y : Y) → Ok y ≡ result_and_then r next
+    → (x : X) × (r ≡ Ok x) × (Ok y ≡ next x)
+read_ok (Ok x) next y is = (x, refl, is)
+read_ok (Err fault) next y is = absurd cc
 
 module _ (secret password : List ℕ) (v : Phc) where
   -- Ok is answered only if the value accepts

@@ -1,7 +1,6 @@
 use Rattle.argon2.proofs.Imports.{◌≡◌, ◌+◌, ◌-◌, ◌*◌, ◌/◌, ◌∙◌, arith, segment_length, columns_before, segment_calls}
-use Rattle.argon2.proofs.recurrence.Addresses.{first_mixings, same_addresses, same_mixings}
 use Rattle.argon2.proofs.context_lemmas.InOrder.{filled_step}
-use Rattle.argon2.proofs.context_lemmas.SegmentColumns.{a_column, a_step}
+use Rattle.argon2.proofs.context_lemmas.SegmentColumns.{a_column, a_step, first_mixings, same_addresses, same_mixings}
 use Rattle.argon2.proofs.context.instance.Instance.fill_columns.Goals as goal
 
 pub loop-index-init : goal.loop-index-init

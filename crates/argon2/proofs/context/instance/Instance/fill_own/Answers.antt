@@ -1,7 +1,6 @@
 use Rattle.argon2.proofs.Imports.{◌≡◌, ◌+◌, ◌-◌, ◌*◌, ◌/◌, ◌<◌, refl, ◌∙◌, arith, nat_tests, segment_length, columns_before}
-use Rattle.argon2.proofs.recurrence.Addresses.{same_addresses}
 use Rattle.argon2.proofs.context_lemmas.Filling.{HasBlocksUpTo-like}
-use Rattle.argon2.proofs.context_lemmas.SegmentColumns.{a_column, a_step, in_lane}
+use Rattle.argon2.proofs.context_lemmas.SegmentColumns.{a_column, a_step, in_lane, same_addresses}
 use Rattle.argon2.proofs.context_lemmas.SegmentParts.{ahead, ahead-first, ahead_step}
 use Rattle.argon2.proofs.context.instance.Instance.fill_own.Goals as goal
 

@@ -1,6 +1,16 @@
-use Rattle.argon2.proofs.Imports.{◌≡◌, Ok, length, ap, rules, ◌∙◌, option_map, IfSome, phc_of, HasBytes, settings_value, shown_settings}
-use Rattle.argon2.proofs.password_hash_lemmas.Answered.{shown_length}
+use Rattle.argon2.proofs.Imports.{◌≡◌, Ok, length, ap, rules, ◌∙◌, option_map, IfSome, phc_of, HasBytes, settings_value, shown_settings, ℕ, List, Option, Result, Err, refl, arith, Fault}
+use Rattle.argon2.proofs.Imports.{Pair, Phc, Parameters, Settings, params_of, result_and_then}
 use Rattle.argon2.proofs.password_hash.stored.Stored.with_settings.Goals as goal
+
+-- parameters that are read have the length that is given
+read_length : (output_len : Option ℕ) (ps : List Pair) (q : Parameters) → Ok q ≡ params_of output_len ps
+    → q.output_len ≡ output_len
+read_length output_len ps q is = grind arith
+
+-- settings that a value shows have the length of its hash
+shown_length : (v : Phc) (settings : Settings) → Ok settings ≡ shown_settings v
+    → settings.parameters.output_len ≡ option_map length v.hash
+shown_length v settings is = let same = read_length (option_map length v.hash) v.params in grind arith
 
 pub invariant_of-result-clause-sized : goal.invariant_of-result-clause-sized
 invariant_of-result-clause-sized c =
