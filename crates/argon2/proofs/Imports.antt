@@ -1,7 +1,7 @@
 -- The words that the proofs of this crate use.
 pub use Rattle.std.proofs.Common.{Bool, Err, Fits, List, None, Ok, Option, Result, Some, [], add-one, ap, append-nil, ap₂, arith, codes, drop, false, fold, if◌then◌else◌, inl, inr, length}
 pub use Rattle.std.proofs.Common.{map, option_copied, refl, replicate, rules, slice_index, string_bytes, subst, suc, sym, take, true, w8, zero, ℕ, ◌%◌, ◌&&◌, ◌*◌, ◌++◌, ◌+◌, ◌-◌, ◌/◌, ◌<◌}
-pub use Rattle.std.proofs.Common.{◌^◌, ◌∙◌, ◌∷◌, ◌≡◌, ◌≢◌, ◌≤◌, ◌⊎◌}
+pub use Rattle.std.proofs.Common.{◌^◌, ◌∙◌, ◌∷◌, ◌≡◌, ◌≢◌, ◌≤◌, ◌⊎◌, length-append, w32}
 pub use Rattle.std.proofs.Math.Nat.{div-eq_of_lt-le, div-lt_iff_lt-mul, div-mul-le_self, lt-mul-div-succ, lt_of_mul-lt-mul_right, mod-eq-sub-div-mul, mod-lt, mul-le-mul, mul-le-mul_left}
 pub use Rattle.std.proofs.Math.Nat.{mul-le-mul_right}
 pub use Rattle.std.proofs.lemmas.Bool.{and_parts, cases_Bool, cases_eq, cases_lt, cond_both, eqb-true, le-leb}
@@ -12,7 +12,7 @@ pub use Rattle.std.proofs.lemmas.List.{get_or_push, length-map, length-replicate
 pub use Rattle.std.proofs.lemmas.List.FromFn.{fill_by_all, get_or-map-range_with_len, get_or-range_with_len, length-map-range_with_len, length-range_with_len, map-range_with_len_more}
 pub use Rattle.std.proofs.lemmas.List.Sums.{fold_push, sum_by-append, sum_by-cons}
 pub use Rattle.std.proofs.lemmas.Map.Text.{btree_map_updates_text, is_eq-slice_cmp}
-pub use Rattle.std.proofs.lemmas.Nat.{div-mul-add, div_below, le-div, mod-mul-add, mul-add-lt, same_from_place}
+pub use Rattle.std.proofs.lemmas.Nat.{div-mul-add, div_below, le-div, mod-mul-add, mul-add-lt, same_from_place, div-add-mod'}
 pub use Rattle.std.proofs.lemmas.Slice.Eq.{bytes_eq-Decides}
 pub use Rattle.std.specs.Cmp.Lexicographic.{nat_list_cmp_total, nat_list_eq_equiv, slice_cmp}
 pub use Rattle.std.specs.FinMap.{empty, entries, entries-from_sorted, find, from_sorted, get, get-empty, get-from_entries, get-from_sorted, get-insert, insert, is_sorted}
@@ -63,10 +63,12 @@ pub use Rattle.argon2_base.specs.Block.{bytes_of}
 unfoldable pub use Rattle.argon2_base.specs.Block.{add_mul, by_columns, by_rows, column, gb, mix_columns, mix_diagonals, mixed, perm, row, xor_blocks, xor_rotate, zero_block}
 pub use Rattle.argon2_base.specs.ByteList.{base64_length, list_bytes}
 pub use Rattle.argon2_base.specs.Error.{Fault, fault_of, outcome_of}
+pub use Rattle.argon2_base.specs.declared.error.Error.{Error}
+pub use Rattle.argon2_base.specs.declared.error.password_hash.Error.{Error as HashError}
 pub use Rattle.argon2_base.specs.LongHash.{long_hash}
 pub use Rattle.argon2_base.specs.PhcFields.{phc_of}
 pub use Rattle.argon2_base.specs.PhcText.{HasBytes, IsPhc, Pair, Phc, are_distinct, are_params, ident_text, is_param, item, params_text, phc_text, value_of}
-pub use Rattle.argon2_base.specs.Texts.{IsBytes, is_name, is_value, is_value_char, number_of, strict_base64}
-pub use Rattle.argon2_base.specs.declared.error.password_hash.Error.TheVariants.{OutOfMemory}
+pub use Rattle.argon2_base.specs.Texts.{IsBytes, is_name, is_value, is_value_char, number_of, strict_base64, short_bytes}
+pub use Rattle.argon2_base.specs.declared.error.password_hash.Error.TheVariants.{OutOfMemory, Algorithm as NoAlgorithm}
 pub use Rattle.argon2_base.specs.declared.phc.hash.PasswordHash.{PasswordHash}
 pub use Rattle.rand_core.specs.Stream.{fill_bytes}

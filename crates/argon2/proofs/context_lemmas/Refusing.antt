@@ -1,7 +1,6 @@
 -- What a call answers that its table of faults does not refuse.
 use Rattle.argon2.proofs.Imports.{◌≡◌, ℕ, ◌≤◌, false, true, Bool, List, [], ◌∷◌, ◌++◌, Option, None, Result, Ok, length, refl, arith, nat_lt, nat_tests, Argon2, context_of, own_parameters}
-use Rattle.argon2.proofs.Imports.{ChecksFirst, refusal_of, block_count}
-use Rattle.argon2_base.specs.declared.error.Error.{Error}
+use Rattle.argon2.proofs.Imports.{ChecksFirst, refusal_of, block_count, Error}
 use Rattle.argon2.specs.Refusals.{answer_unless, data_refusal, first_of, input_faults, max_len, memory_faults, output_faults}
 
 -- an answer says that there is no fault

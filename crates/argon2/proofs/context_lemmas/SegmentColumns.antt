@@ -1,8 +1,7 @@
--- The columns of a segment, by their index in it.
+-- The columns of a segment, by their index in it, and the address blocks that they take.
 use Rattle.argon2.proofs.Imports.{◌≡◌, ℕ, zero, suc, refl, ◌+◌, ◌-◌, ◌*◌, ◌/◌, ◌%◌, ◌<◌, ◌≤◌, ◌≢◌, ◌⊎◌, arith, nat_tests, mod-eq-sub-div-mul, mod-lt, mul-le-mul_right, div-mul-add}
 use Rattle.argon2.proofs.Imports.{mod-mul-add, mul-add-lt, Context, segment_length, Sizes, column_of, IsStepAt, Step, Some, None, ap, if◌then◌else◌, address_block, is_independent}
-use Rattle.argon2.proofs.Imports.{addresses_at, address_mixings}
-use Rattle.std.proofs.lemmas.Nat.{div-add-mod'}
+use Rattle.argon2.proofs.Imports.{addresses_at, address_mixings, div-add-mod'}
 use Rattle.argon2.proofs.recurrence.PermittedPlaces.{InSlice, in_slice, get_or-permitted, length-permitted}
 
 -- one address block serves 128 indexes

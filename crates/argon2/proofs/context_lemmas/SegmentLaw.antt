@@ -1,10 +1,9 @@
 -- Segments that are filled on the parts of a memory, slice by slice, lead to the tag.
 use Rattle.argon2.proofs.Imports.{◌≡◌, ℕ, zero, suc, ◌+◌, ◌-◌, ◌*◌, ◌/◌, ◌%◌, ◌<◌, ◌≤◌, inl, inr, List, [], map, length, refl, sym, ap, ◌∙◌, subst, arith, drop, slice_index_or, take}
-use Rattle.argon2.proofs.Imports.{range_with_len, le-div, mod-lt, div-mul-add, div_below, mod-mul-add, mul-add-lt, cases_lt, get_or-drop, get_or-take}
-use Rattle.argon2.proofs.Imports.{get_or-map-range_with_len, length-map-range_with_len, bytes_of, long_hash, Context, FirstColumns, block_count, block_of, first_block, lane_length}
-use Rattle.argon2.proofs.Imports.{last_block, segment_length, tag_of, Memory, Sizes, AreParts, BeginsSlices, FillsSegment, IsFilledBySegments, last_of_slice, segment_in, slice_length}
-use Rattle.argon2.proofs.Imports.{slices_after, slices_before, HasBlocksUpTo, columns_before}
-use Rattle.std.proofs.lemmas.Nat.{div-add-mod'}
+use Rattle.argon2.proofs.Imports.{range_with_len, le-div, mod-lt, div-mul-add, div_below, mod-mul-add, mul-add-lt, cases_lt, get_or-drop, get_or-take, get_or-map-range_with_len}
+use Rattle.argon2.proofs.Imports.{length-map-range_with_len, bytes_of, long_hash, Context, FirstColumns, block_count, block_of, first_block, lane_length, last_block, segment_length, tag_of}
+use Rattle.argon2.proofs.Imports.{Memory, Sizes, AreParts, BeginsSlices, FillsSegment, IsFilledBySegments, last_of_slice, segment_in, slice_length, slices_after, slices_before}
+use Rattle.argon2.proofs.Imports.{HasBlocksUpTo, columns_before, div-add-mod'}
 use Rattle.argon2.proofs.recurrence.PermittedPlaces.{in_slice}
 use Rattle.argon2.proofs.context_lemmas.Filling.{filled_at_first, next_pass, turn_count-later_pass, turn_count-later_slice}
 use Rattle.argon2.proofs.context_lemmas.InMemory.{place_below}

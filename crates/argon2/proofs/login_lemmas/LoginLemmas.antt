@@ -1,12 +1,11 @@
 -- One login as a step.
 use Rattle.argon2.proofs.Imports.{◌≡◌, refl, ℕ, List, Some, Ok, ◌⊎◌, arith, ◌≢◌, get, insert, phc_of, Phc, OutOfMemory, PasswordHash, Accepted, Current, Kept, Rehashed, Refused, AcceptsBy}
-use Rattle.argon2.proofs.Imports.{LoginAnswer, Store, IsCurrent, Leaves, Target, IsTarget, hash_value, IsHashAnswer}
-use Rattle.argon2_base.specs.declared.error.password_hash.Error.{Error}
+use Rattle.argon2.proofs.Imports.{LoginAnswer, Store, IsCurrent, Leaves, Target, IsTarget, hash_value, IsHashAnswer, HashError}
 use Rattle.argon2.proofs.login_lemmas.Stores.{insert-same}
 use Rattle.argon2.proofs.password_hash_lemmas.MadeValues.{made_accepts, made_shows}
 
 -- a refusal of a text as the store's
-pub refused_text : {P : Type 0} (e : Error) → (e ≡ OutOfMemory) ⊎ (P → ⊥) → (Refused e ≡ Refused OutOfMemory) ⊎ (P → ⊥)
+pub refused_text : {P : Type 0} (e : HashError) → (e ≡ OutOfMemory) ⊎ (P → ⊥) → (Refused e ≡ Refused OutOfMemory) ⊎ (P → ⊥)
 refused_text e refused = grind arith
 
 -- what a hash that was answered is

@@ -1,7 +1,6 @@
 -- What parameters are listed as is in the grammar.
 use Rattle.argon2.proofs.Imports.{◌≡◌, ℕ, ◌+◌, ◌^◌, ◌<◌, ◌≤◌, true, List, [], ◌∷◌, length, refl, arith, le-leb, decimal, list_all, sum_by, sum_by-cons, IsBytes, is_value, is_value_char}
-use Rattle.argon2.proofs.Imports.{strict_base64, Pair, are_params, params_text, is_param, are_distinct, item, parameter_items, length-strict_base64}
-use Rattle.std.proofs.Common.{length-append}
+use Rattle.argon2.proofs.Imports.{strict_base64, Pair, are_params, params_text, is_param, are_distinct, item, parameter_items, length-strict_base64, length-append}
 use Rattle.std.proofs.lemmas.Fmt.{decimal_nonempty, length-decimal-le}
 use Rattle.argon2_base.proofs.phc_lemmas.ValueCharacters.{decimal_chars, base64_chars}
 

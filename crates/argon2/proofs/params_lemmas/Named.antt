@@ -1,10 +1,8 @@
 -- Algorithms by their names and versions by their numbers.
 use Rattle.argon2.proofs.Imports.{◌≡◌, ◌≢◌, ℕ, List, Some, None, Result, Ok, Err, arith, result_ok, nat_tests, bytes_eq-Decides, Algorithm, Version, IsReadBy, algorithm_name}
-use Rattle.argon2.proofs.Imports.{algorithm_named, version_number, version_numbered}
+use Rattle.argon2.proofs.Imports.{algorithm_named, version_number, version_numbered, HashError, NoAlgorithm}
 use Rattle.argon2.specs.declared.algorithm.Algorithm.TheVariants.{Argon2d, Argon2i, Argon2id}
 use Rattle.argon2.specs.declared.version.Version.TheVariants.{V0x10, V0x13}
-use Rattle.argon2_base.specs.declared.error.password_hash.Error.{Error as HashError}
-use Rattle.argon2_base.specs.declared.error.password_hash.Error.TheVariants.{Algorithm as NoAlgorithm}
 
 -- a variant is found by its name
 pub algorithm_named-name : (algorithm : Algorithm) → algorithm_named (algorithm_name algorithm) ≡ Some algorithm

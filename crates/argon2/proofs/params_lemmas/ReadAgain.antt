@@ -1,7 +1,6 @@
 -- What parameters are listed as is read as the same.
 use Rattle.argon2.proofs.Imports.{◌≡◌, ℕ, ◌^◌, ◌<◌, ◌≤◌, List, [], ◌∷◌, length, refl, arith, Option, None, Ok, Some, nat_tests, IsNone, decimal, IsBytes, short_bytes_again, number_again}
-use Rattle.argon2.proofs.Imports.{number_of, strict_base64, parameter_items, params_of, first_fault, cost_parameters}
-use Rattle.argon2_base.specs.Texts.{short_bytes}
+use Rattle.argon2.proofs.Imports.{number_of, strict_base64, parameter_items, params_of, first_fault, cost_parameters, short_bytes}
 
 -- costs that are valid with an output length are valid without one
 pub valid_without : (m t p : ℕ) (o : Option ℕ) → IsNone (first_fault m t p o) → first_fault m t p None ≡ None

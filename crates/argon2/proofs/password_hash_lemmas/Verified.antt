@@ -1,8 +1,7 @@
 -- Verifying answers Ok exactly if the value accepts.
 use Rattle.argon2.proofs.Imports.{◌≡◌, ℕ, true, List, length, Result, Ok, Err, inl, inr, ◌⊎◌, refl, arith, nat_tests, le-leb, bytes_eq-Decides, MatchResult, OutOfMemory, Phc, AcceptsBy}
 use Rattle.argon2.proofs.Imports.{IsVerifyAnswer, is_tag, verify_outcome, stored_of, tag_of, context_with, Option, option_map, Fault, Pair, Parameters, Settings, params_of, result_and_then}
-use Rattle.argon2.proofs.Imports.{shown_settings}
-use Rattle.argon2_base.specs.declared.error.password_hash.Error.{Error}
+use Rattle.argon2.proofs.Imports.{shown_settings, HashError}
 
 -- what is read is read of something
 read_ok : {X Y : Type 0} (r : Result X Fault) (next : X → Result Y Fault) (y : Y) → Ok y ≡ result_and_then r next
@@ -40,7 +39,7 @@ module _ (secret password : List ℕ) (v : Phc) where
       rw (a.has_salt, a.has_hash, a.has_parameters, a.has_algorithm, a.has_version, short, same) refl
 
   -- what an answer says of the conditions
-  pub exact : (r : Result (Unit {0}) Error) → IsVerifyAnswer secret password v r
+  pub exact : (r : Result (Unit {0}) HashError) → IsVerifyAnswer secret password v r
       → MatchResult r (λ _. AcceptsBy secret password v) (λ e. (e ≡ OutOfMemory) ⊎ (AcceptsBy secret password v → ⊥))
   exact (Ok _) (inl is) = accepts_verified is
   exact (Ok _) (inr is) = let no = is.0 in absurd cc

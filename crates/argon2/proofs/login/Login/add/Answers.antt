@@ -1,6 +1,5 @@
-use Rattle.argon2.proofs.Imports.{rules, ap, sym, ◌∙◌, Some, refl, string_bytes, btree_map_updates_text, phc_of, store_of}
+use Rattle.argon2.proofs.Imports.{rules, ap, sym, ◌∙◌, Some, refl, string_bytes, btree_map_updates_text, phc_of, store_of, get, insert}
 use Rattle.argon2.proofs.login_lemmas.Stores.{values_of-set, get-other, get-same, present, absent}
-use Rattle.std.specs.FinMap as finmap
 use Rattle.argon2.proofs.login.Login.add.Goals as goal
 
 pub returns-then-contains_key-clause-step : goal.returns-then-contains_key-clause-step
@@ -28,13 +27,13 @@ returns c =
     let sets = btree_map_updates_text (string_bytes key) c.args.self.now.texts c.insert.new.self _
     c.in-Ok-insert.ensures.updates in
     let set = values_of-set c.args.self.now.texts c.insert.new.self (string_bytes key) parsed sets
-    ∙ ap (λ n. finmap.insert before n (phc_of parsed)) (search rules) in
+    ∙ ap (λ n. insert before n (phc_of parsed)) (search rules) in
     record {
       step = (none, phc_of parsed, c.in-Ok.ensures.found, set);
-      text = λ v is. ap (λ m. finmap.get m name) set ∙ get-same before name (phc_of parsed)
+      text = λ v is. ap (λ m. get m name) set ∙ get-same before name (phc_of parsed)
           ∙ ap Some (c.in-Ok.ensures.only v is);
-      inserted = λ v is. set ∙ ap (finmap.insert before name) (c.in-Ok.ensures.only v is);
-      others = λ other differs. ap (λ m. finmap.get m other) set
+      inserted = λ v is. set ∙ ap (insert before name) (c.in-Ok.ensures.only v is);
+      others = λ other differs. ap (λ m. get m other) set
           ∙ get-other before name (phc_of parsed) other differs;
       target = refl;
     }

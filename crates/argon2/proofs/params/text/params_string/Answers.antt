@@ -1,5 +1,5 @@
 use Rattle.argon2.proofs.Imports.{ℕ, ◌≤◌, Fits, ◌++◌, ◌≡◌, ◌∷◌, [], List, None, arith, codes, length, append-nil, refl, slice_index, true, w8, Pair, are_params, bytes_item, parameter_items}
-use Rattle.std.proofs.Common.{w32}
+use Rattle.argon2.proofs.Imports.{w32}
 use Rattle.argon2_base.proofs.phc_lemmas.ParamsReading.{params_front}
 use Rattle.argon2.proofs.params_lemmas.ListedLemmas.{cost_item, listed_good}
 use Rattle.argon2.proofs.params_lemmas.ReadAgain.{read_again, valid_without}

@@ -1,6 +1,5 @@
-use Rattle.argon2.proofs.Imports.{arith, refl, ◌≡◌, ℕ, ◌≤◌, List, length, None, Some, Ok, length-take, IsBytes, base64_length, short_bytes_again, short_bytes_refused, own_bytes}
-use Rattle.argon2_base.specs.Texts.{short_bytes}
-use Rattle.argon2_base.specs.declared.error.Error.{Error}
+use Rattle.argon2.proofs.Imports.{arith, refl, ◌≡◌, ℕ, ◌≤◌, List, length, None, Some, Ok, length-take, IsBytes, base64_length, short_bytes_again, short_bytes_refused, own_bytes, short_bytes}
+use Rattle.argon2.proofs.Imports.{Error}
 use Rattle.argon2_base.specs.declared.error.Error.TheVariants.{B64Encoding}
 use Rattle.argon2.specs.declared.params.short_bytes.ShortBytes.{ShortBytes}
 use Rattle.argon2.specs.Params.{IsBase64Fault, IsOfText}

@@ -1,9 +1,8 @@
-use Rattle.argon2.proofs.Imports.{ℕ, List, Result, Ok, Err, MatchResult, Phc, secret_of, AcceptsBy, IsVerifyAnswer}
-use Rattle.argon2_base.specs.declared.error.password_hash.Error.{Error}
+use Rattle.argon2.proofs.Imports.{ℕ, List, Result, Ok, Err, MatchResult, Phc, secret_of, AcceptsBy, IsVerifyAnswer, HashError}
 use Rattle.argon2.proofs.password_hash_lemmas.Verified.{exact}
 use Rattle.argon2.proofs.login.target.Target.verify.Goals as goal
 
-answered : (secret password : List ℕ) (v : Phc) (r : Result (Unit {0}) Error) → IsVerifyAnswer secret password v r
+answered : (secret password : List ℕ) (v : Phc) (r : Result (Unit {0}) HashError) → IsVerifyAnswer secret password v r
     → MatchResult r (λ _. AcceptsBy secret password v) (λ e. IsVerifyAnswer secret password v (Err e))
 answered secret password v (Ok x) is = exact secret password v (Ok x) is
 answered secret password v (Err e) is = is
