@@ -2,9 +2,8 @@
 pub use Rattle.std.proofs.Common.{Bool, Err, Fits, List, None, Ok, Option, Result, Some, [], add-one, ap, append-nil, ap₂, arith, codes, drop, false, fold, if◌then◌else◌, inl, inr, length}
 pub use Rattle.std.proofs.Common.{map, option_copied, refl, replicate, rules, slice_index, string_bytes, subst, suc, sym, take, true, w8, zero, ℕ, ◌%◌, ◌&&◌, ◌*◌, ◌++◌, ◌+◌, ◌-◌, ◌/◌, ◌<◌}
 pub use Rattle.std.proofs.Common.{◌^◌, ◌∙◌, ◌∷◌, ◌≡◌, ◌≢◌, ◌≤◌, ◌⊎◌, length-append, w32}
-pub use Rattle.std.proofs.Math.Nat.{div-eq_of_lt-le, div-lt_iff_lt-mul, div-mul-le_self, lt-mul-div-succ, lt_of_mul-lt-mul_right, mod-eq-sub-div-mul, mod-lt, mul-le-mul, mul-le-mul_left}
-pub use Rattle.std.proofs.Math.Nat.{mul-le-mul_right}
-pub use Rattle.std.proofs.lemmas.Bool.{and_parts, cases_Bool, cases_eq, cases_lt, cond_both, eqb-true, le-leb}
+pub use Rattle.std.proofs.Math.Nat.{div-eq_of_lt-le, div-lt_iff_lt-mul, div-mul-le_self, lt-mul-div-succ, mod-eq-sub-div-mul, mod-lt, mul-le-mul, mul-le-mul_left, mul-le-mul_right}
+pub use Rattle.std.proofs.lemmas.Bool.{and_parts, cases_eq, cases_lt, cond_both, eqb-true, le-leb}
 pub use Rattle.std.proofs.lemmas.Bool.Decides.{nat_tests}
 pub use Rattle.std.proofs.lemmas.Grind.{common_steps}
 pub use Rattle.std.proofs.lemmas.List.{drop-map, drop-replicate, ext_get_or, get_or-append_right, get_or-drop, get_or-map, get_or-set_other, get_or-set_same, get_or-take, get_or_append_left}
@@ -29,8 +28,7 @@ pub use Rattle.argon2.specs.Laws.{AreAlike, AreSchedules, Begins, IsRecurrence}
 pub use Rattle.argon2.specs.Layout.{IsSize, Memory, Sizes, place_of}
 unfoldable pub use Rattle.argon2.specs.Layout.{addresses_at, matrix, matrix_of, reference_places}
 pub use Rattle.argon2.specs.ListedParameters.{Items, bytes_item, found_of, item_fault, item_taken, items_fault, items_of, items_over, items_read, list_of, parameter_items, params_of}
-pub use Rattle.argon2.specs.ListedParameters.{unless_fault}
-pub use Rattle.argon2.specs.Login.{AcceptedStep, AddStep, Event, HasPassword, LoginAnswer, LoginStep, adding, logging_in, login_target, store_of, target_value}
+pub use Rattle.argon2.specs.Login.{AddStep, Event, LoginAnswer, adding, logging_in, store_of, target_value}
 pub use Rattle.argon2.specs.NamedTexts.{IsCurrent, KeepsOthers, Leaves, Store, named_values, newest, values_of, with_texts}
 pub use Rattle.argon2.specs.Rfc9106.{Blocks, Context, FirstColumns, IsValid, Reference, address_counter, block_after, block_count, block_count_for, lane_length, number, segment_length}
 pub use Rattle.argon2.specs.Rfc9106.{with_length}
@@ -52,7 +50,7 @@ pub use Rattle.argon2.specs.declared.context.fill.Step.{Step}
 pub use Rattle.argon2.specs.declared.login.answers.Accepted.{Accepted}
 pub use Rattle.argon2.specs.declared.login.answers.Accepted.TheVariants.{Current, Kept, Rehashed}
 pub use Rattle.argon2.specs.declared.login.answers.LoginError.{LoginError}
-pub use Rattle.argon2.specs.declared.login.answers.LoginError.TheVariants.{NameUnknown, Refused}
+pub use Rattle.argon2.specs.declared.login.answers.LoginError.TheVariants.{Refused}
 pub use Rattle.argon2.specs.declared.version.Version.{Version}
 pub use Rattle.argon2_base.proofs.block_lemmas.MixingLaws.{mixed-comm, xor_blocks-comm}
 pub use Rattle.argon2_base.proofs.phc_lemmas.Base64Lemmas.{length-strict_base64, short_bytes_again, short_bytes_refused}

@@ -24,10 +24,9 @@ module _ (ctx : Context) (count : ℕ) (all : count ≡ block_count ctx) (old bl
   KeepsOtherColumns-front : length blocks ≡ block_count ctx → KeepsOtherColumns ctx (take count old) blocks
       → KeepsOtherColumns ctx old (blocks ++ drop count old)
   KeepsOtherColumns-front size same lane column l low high =
-      let place = lane * lane_length ctx + column in
       let below = mul-add-lt lane (lane_length ctx) column ctx.p_cost l high in
-      get_or_append_left blocks (drop count old) [] place (omega (arith, below, size))
-      ∙ same lane column l low high ∙ get_or-take count old place [] (omega (arith, below, all))
+      let front = get_or_append_left blocks (drop count old) [] (lane * lane_length ctx + column) in
+      grind (arith, same lane column l low high, get_or-take count old (lane * lane_length ctx + column) [])
 
   -- if the first blocks are the matrix, it is in the memory, and the rest is as before
   pub has_matrix : (password salt : List ℕ) (n : ℕ) → blocks ≡ matrix_of ctx password salt n

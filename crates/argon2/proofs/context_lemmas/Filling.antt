@@ -86,11 +86,6 @@ run_fills ctx sizes first pass slice four (lane ∷ schedule) memory m h =
 
 -- ---- slices and passes
 
--- in later slices a lane has as many turns as its segment has columns
-pub turn_count-later_slice : (ctx : Context) (pass slice : ℕ)
-    → turn_count ctx pass (suc slice) ≡ segment_length ctx
-turn_count-later_slice ctx pass slice = grind (arith, nat_tests)
-
 -- the first slices of a pass fill it up to there, each by its schedule
 slices_fill : (ctx : Context) → Sizes ctx
     → (first : FirstColumns) (schedules : ℕ → List ℕ) (pass slice : ℕ) → slice ≤ 4
@@ -108,22 +103,14 @@ slices_fill ctx sizes first schedules pass (suc slice) four is memory h =
     (λ l below. ap (λ n. (slice + 1) * segment_length ctx - n) (sym (it.turns l below))) i in
     HasBlocksUpTo-like ctx first pass (done_before ctx slice []) (λ _. columns_before ctx pass (suc slice))
     (run ctx pass slice schedule before)
-    (λ l below. let w = turn_count-later_slice ctx pass slice in omega arith)
+    (λ l below. grind (arith, nat_tests))
     (run_fills ctx sizes first pass slice (omega arith) schedule before (MayRun-from ctx pass slice schedule it) start)
-
--- in later passes a lane has as many turns as its segment has columns
-pub turn_count-later_pass : (ctx : Context) (pass : ℕ)
-    → turn_count ctx (suc pass) 0 ≡ segment_length ctx
-turn_count-later_pass ctx pass = grind (arith, nat_tests)
 
 -- the end of a pass is the start of the next
 pub next_pass : (ctx : Context) (first : FirstColumns) (pass : ℕ) (memory : List (List ℕ))
     → HasBlocksUpTo ctx first pass (λ _. columns_before ctx pass 4) memory
     → HasBlocksUpTo ctx first (suc pass) (λ _. columns_before ctx (suc pass) 0) memory
-next_pass ctx first pass memory h =
-    let w = turn_count-later_pass ctx pass in
-    let e = turn_count-later_slice ctx pass 3 in
-    grind arith
+next_pass ctx first pass memory h = grind (arith, nat_tests)
 
 -- the first passes fill the memory, each slice by its schedule
 passes_fill : (ctx : Context) → Sizes ctx
@@ -157,13 +144,12 @@ filled_at_last ctx sizes first zero memory t h = absurd (let some = sizes.some_p
 filled_at_last ctx sizes first (suc r) memory t h =
     let q = lane_length ctx in
     let two = sizes.two_columns in
-    let w = turn_count-later_pass ctx r in
     let p : r ≡ ctx.t_cost - 1 = omega arith in
     fill_by_all (λ place. block_of ctx first (ctx.t_cost - 1) (place / q) (place % q)) memory (block_count ctx) [] h.size (λ n lt.
     let lane : n / q < ctx.p_cost = div_below n q ctx.p_cost (omega arith) lt in
     let column : n % q < q = mod-lt n (omega arith) in
     ap (λ x. slice_index_or memory x []) (sym (div-add-mod' n q))
-    ∙ h.old r (n / q) (n % q) refl lane column (omega arith)
+    ∙ h.old r (n / q) (n % q) refl lane column (grind (arith, nat_tests))
     ∙ ap (λ x. block_of ctx first x (n / q) (n % q)) p)
 
 -- any schedules lead from the first two columns to the matrix

@@ -2,7 +2,7 @@
 use Rattle.argon2.proofs.Imports.{◌≡◌, ℕ, suc, ◌+◌, ◌*◌, ◌<◌, ◌≤◌, ◌≢◌, List, subst, sym, add-one, arith, slice_set, nat_tests, Context, FirstColumns, segment_length, Memory, Sizes, Begins}
 use Rattle.argon2.proofs.Imports.{columns_before, in_order, position_index, IsFilledFrom, IsFilledUpTo, IsStep, reference_place, step}
 use Rattle.argon2.proofs.recurrence.PermittedPlaces.{InSlice}
-use Rattle.argon2.proofs.context_lemmas.Filling.{filled_at_first, filled_at_last, next_pass, step_answers, step_fills, turn_count-later_slice, HasBlocksUpTo-like}
+use Rattle.argon2.proofs.context_lemmas.Filling.{filled_at_first, filled_at_last, next_pass, step_answers, step_fills, HasBlocksUpTo-like}
 use Rattle.argon2.proofs.context_lemmas.ReferencePlaces.{first_positions, next_positions, step_positions, HasPositionsUpTo-like}
 use Rattle.argon2.proofs.context_lemmas.Schedules.{turn_count-le}
 
@@ -26,7 +26,7 @@ in_order-next ctx pass slice lane l = grind (arith, nat_tests)
 -- a slice whose lanes are done is followed by the next
 pub in_order-last : (ctx : Context) (pass slice lane l : ℕ) → l < lane
     → in_order ctx pass slice lane (columns_before ctx pass slice) l ≡ columns_before ctx pass (slice + 1)
-in_order-last ctx pass slice lane l below = let turns = turn_count-later_slice ctx pass slice in grind (arith, nat_tests)
+in_order-last ctx pass slice lane l below = grind (arith, nat_tests)
 
 -- in a slice each lane has the columns before it, and none behind it
 in_order-within : (ctx : Context) (pass slice lane column l : ℕ) → InSlice (segment_length ctx) column slice

@@ -1,7 +1,6 @@
 -- The places that the steps record are those of the recurrence's references.
 use Rattle.argon2.proofs.Imports.{◌≡◌, ℕ, suc, ◌+◌, ◌*◌, ◌<◌, ◌≢◌, List, length, ◌∙◌, arith, slice_set, length-set, get_or-set_same, get_or-set_other, mul-add-lt, same_from_place, Context}
-use Rattle.argon2.proofs.Imports.{FirstColumns, block_count, lane_length, Sizes, reference_places, IsStep, columns_before, place_count, position_index, HasPositionsUpTo}
-use Rattle.argon2.proofs.context_lemmas.Filling.{turn_count-later_slice, turn_count-later_pass}
+use Rattle.argon2.proofs.Imports.{FirstColumns, block_count, lane_length, Sizes, reference_places, IsStep, columns_before, nat_tests, place_count, position_index, HasPositionsUpTo}
 use Rattle.argon2.proofs.context_lemmas.InMemory.{place_below}
 
 -- blocks of one index are one block
@@ -47,10 +46,7 @@ step_positions ctx sizes first pass lane column done done' old new place st t is
 pub next_positions : (ctx : Context) (first : FirstColumns) (pass : ℕ) (old new : List ℕ)
     → HasPositionsUpTo ctx first pass (λ _. columns_before ctx pass 4) old new
     → HasPositionsUpTo ctx first (suc pass) (λ _. columns_before ctx (suc pass) 0) old new
-next_positions ctx first pass old new has =
-    let w = turn_count-later_pass ctx pass in
-    let e = turn_count-later_slice ctx pass 3 in
-    grind arith
+next_positions ctx first pass old new has = grind (arith, nat_tests)
 
 -- before the first step the list is as it was
 pub first_positions : (ctx : Context) → Sizes ctx → (first : FirstColumns) (old : List ℕ) → length old ≡ place_count ctx

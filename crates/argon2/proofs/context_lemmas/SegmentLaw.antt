@@ -3,9 +3,9 @@ use Rattle.argon2.proofs.Imports.{◌≡◌, ℕ, zero, suc, ◌+◌, ◌-◌, �
 use Rattle.argon2.proofs.Imports.{range_with_len, le-div, mod-lt, div-mul-add, div_below, mod-mul-add, mul-add-lt, cases_lt, get_or-drop, get_or-take, get_or-map-range_with_len}
 use Rattle.argon2.proofs.Imports.{length-map-range_with_len, bytes_of, long_hash, Context, FirstColumns, block_count, block_of, first_block, lane_length, last_block, segment_length, tag_of}
 use Rattle.argon2.proofs.Imports.{Memory, Sizes, AreParts, BeginsSlices, FillsSegment, IsFilledBySegments, last_of_slice, segment_in, slice_length, slices_after, slices_before}
-use Rattle.argon2.proofs.Imports.{HasBlocksUpTo, columns_before, div-add-mod'}
+use Rattle.argon2.proofs.Imports.{HasBlocksUpTo, columns_before, nat_tests, turn_count, div-add-mod'}
 use Rattle.argon2.proofs.recurrence.PermittedPlaces.{in_slice}
-use Rattle.argon2.proofs.context_lemmas.Filling.{filled_at_first, next_pass, turn_count-later_pass, turn_count-later_slice}
+use Rattle.argon2.proofs.context_lemmas.Filling.{filled_at_first, next_pass}
 use Rattle.argon2.proofs.context_lemmas.InMemory.{place_below}
 use Rattle.argon2.proofs.context_lemmas.LastColumn.{xor_lanes_cong}
 use Rattle.argon2.proofs.context_lemmas.Schedules.{turn_count-le}
@@ -78,7 +78,7 @@ pub slice_fills : (ctx : Context) → Sizes ctx → (first : FirstColumns) (pass
 slice_fills ctx sizes first pass slice memory memory' four fills before after h =
     let s = segment_length ctx in
     let two = sizes.two_columns in
-    let later = turn_count-later_slice ctx pass slice in
+    let later : turn_count ctx pass (suc slice) ≡ s = grind (arith, nat_tests) in
     let few = turn_count-le ctx pass slice in
     let Is = λ (r l c : ℕ). slice_index_or (in_lanes ctx memory') (l * lane_length ctx + c) [] ≡ block_of ctx first r l c in
     let one = λ (l : ℕ). parts_of ctx slice l memory four in
@@ -168,7 +168,7 @@ segments_give_tag ctx password salt n memory is =
     let end = memory last 4 in
     let some = is.begins.1.sizes.some_pass in
     let two = is.begins.1.sizes.two_columns in
-    let later = turn_count-later_pass ctx last in
+    let later : turn_count ctx (suc last) 0 ≡ s = grind (arith, nat_tests) in
     let filled = next_pass ctx first last (in_lanes ctx end) (slices_filled ctx first memory is last 4 (omega arith)
     (omega arith) (passes_filled ctx first memory is last (omega arith))) in
     ap (λ block. long_hash n (bytes_of block)) (xor_lanes_cong ctx _ _ (λ lane l.

@@ -58,18 +58,12 @@ get-added (x ∷ es) m q h =
     let hit = Equal-is (slice_cmp nat_cmp q x.0) in
     grind arith
 
-map_cond : (b : Bool) (h : PasswordHash) (o : Option PasswordHash) →
-    (if b then Some (phc_of h) else option_map phc_of o) ≡ option_map phc_of (if b then Some h else o)
-map_cond b h o = grind arith
-
 module _ {Y : Type 0} where
   find_named : (es : List (String Y × PasswordHash)) (q : List ℕ) →
       find (slice_cmp nat_cmp) q (named_values es)
       ≡ option_map phc_of (lookup (is_at (λ k. slice_cmp nat_cmp q (string_bytes k))) es)
   find_named [] q = refl
-  find_named (e ∷ es) q =
-      ap (λ o. if is_at (λ k. slice_cmp nat_cmp q (string_bytes k)) e.0 then Some (phc_of e.1) else o) (find_named es q)
-      ∙ map_cond (is_at (λ k. slice_cmp nat_cmp q (string_bytes k)) e.0) e.1 _
+  find_named (e ∷ es) q = let rest = find_named es q in grind arith
 
   -- the store has what the tree has
   pub get-values_of : (m : BTreeMap (String Y) PasswordHash) (q : List ℕ) →

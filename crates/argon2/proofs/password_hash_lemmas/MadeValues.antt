@@ -31,12 +31,6 @@ is_target argon2 fits = record {
 abbrev fault_with : Parameters → Option ℕ → Option Error
 fault_with v o = first_fault v.m_cost v.t_cost v.p_cost o
 
-is_name-name : (algorithm : Algorithm) → is_name (algorithm_name algorithm) ≡ true
-is_name-name algorithm = grind arith
-
-version_small : (version : Version) → version_number version < 2 ^ 32
-version_small version = grind arith
-
 module _ (target : Target) (is : IsTarget target) (password salt : List ℕ) where
   valid : fault_with target.settings.parameters target.settings.parameters.output_len ≡ None
   valid = none_of (fault_with target.settings.parameters target.settings.parameters.output_len) is.valid
@@ -62,8 +56,8 @@ module _ (target : Target) (is : IsTarget target) (password salt : List ℕ) whe
 
   pub made_is_phc : HasBytes 8 48 salt → IsPhc (hash_value target password salt)
   made_is_phc h = record {
-    algorithm = is_name-name target.settings.algorithm;
-    version = version_small target.settings.version;
+    algorithm = grind arith;
+    version = grind arith;
     params = listed_good _ _ _ _ _ is.m_cost is.t_cost (lanes) is.keyid.0 is.associated.0 is.keyid.2 is.associated.2;
     salt = h;
     hash = (hash_bytes.0, rw hash_bytes.1 sized_valid.1, rw hash_bytes.1 is.tag_length);

@@ -4,26 +4,17 @@ use Rattle.argon2.proofs.Imports.{compress, hash_blocks, initial_state, bytes_of
 use Rattle.std.specs.Int.{w64, to_le_bytes, bytes_low_first}
 use Rattle.argon2_base.proofs.blake2b_lemmas.Pieces.{long_hash_short}
 
--- ---- lists of bytes
-
-IsBytes-append : (a b : List ℕ) → IsBytes a → IsBytes b → IsBytes (a ++ b)
-IsBytes-append a b ha hb i = grind (arith, common_steps, ha i, hb (i - length a))
-
-IsBytes-take : (n : ℕ) (a : List ℕ) → IsBytes a → IsBytes (take n a)
-IsBytes-take n a h i = grind (arith, common_steps, h i)
+-- ---- digests
 
 IsBytes-low_first : (i k n : ℕ) → IsBytes (bytes_low_first i k n)
 IsBytes-low_first i zero n j = omega arith
 IsBytes-low_first i (suc k) n zero = grind arith
 IsBytes-low_first i (suc k) n (suc j) = IsBytes-low_first (suc i) k n j
 
--- ---- digests
-
 -- the bytes of words
 IsBytes-words : (ws : List ℕ) → IsBytes (flat_map (to_le_bytes w64) ws)
 IsBytes-words [] i = omega arith
-IsBytes-words (w ∷ ws) i = IsBytes-append (to_le_bytes w64 w) (flat_map (to_le_bytes w64) ws)
-    (IsBytes-low_first 0 8 w) (IsBytes-words ws) i
+IsBytes-words (w ∷ ws) i = grind (arith, common_steps, IsBytes-low_first 0 8 w i, IsBytes-words ws (i - 8))
 
 length-words : (ws : List ℕ) → length (flat_map (to_le_bytes w64) ws) ≡ 8 * length ws
 length-words [] = refl
@@ -42,7 +33,7 @@ HasBytes-digest n m h =
     let value : List ℕ = hash_blocks (length m) 0 (initial_state n) (blocks m) in
     let words : length value ≡ 8 = length-hash_blocks (length m) 0 (initial_state n) (blocks m) refl in
     let bytes : List ℕ = flat_map (to_le_bytes w64) value in
-    (IsBytes-take n bytes (IsBytes-words value), omega (arith, length-take n bytes, length-words value, words, h))
+    (λ i. grind (arith, common_steps, IsBytes-words value i), omega (arith, length-take n bytes, length-words value, words, h))
 
 -- ---- tags
 

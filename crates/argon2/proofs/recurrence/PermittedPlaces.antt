@@ -107,12 +107,6 @@ module _ (ctx : Context) (sizes : Sizes ctx) (column : ℕ) (in_columns : column
       let more : 0 < column / s → 1 * s ≤ column / s * s = λ some. mul-le-mul_right s some in
       rw (length-permitted pass lane other later) (grind (arith, nat_tests))
 
-  -- behind the finished segments the own one goes on
-  wraps : (pass i : ℕ) → finished_count ctx pass (column / segment_length ctx) ≤ i
-      → column / segment_length ctx * segment_length ctx + (i - finished_count ctx pass (column / segment_length ctx))
-      ≡ finished_column ctx pass (column / segment_length ctx) i
-  wraps pass i le = let here = bounds in grind (arith, nat_tests)
-
   -- the column of the permitted block at an index
   pub get_or-permitted : (pass lane other i : ℕ)
       → i < length (permitted ctx pass lane column other)
@@ -134,4 +128,4 @@ module _ (ctx : Context) (sizes : Sizes ctx) (column : ℕ) (in_columns : column
       let right = get_or-append_right f own (length f) i (0, 0) refl in
       let alone = get_or_append_left f nil (0, 0) i in
       let side = cases_lt i (length f) in
-      grind (arith, bounds, get_or-finished pass i, get_or-columns pass (column / s * s) (column - 1) (i - length f), wraps pass i, nat_tests)
+      grind (arith, bounds, get_or-finished pass i, get_or-columns pass (column / s * s) (column - 1) (i - length f), nat_tests)

@@ -1,6 +1,6 @@
 //! Refusals by length: of an output, a password, a salt, or memory.
 
-ghost use Rattle.std.specs.Prelude.{◌≡◌, ◌≤◌, OnOk, length};
+ghost use Rattle.std.specs.Prelude.{◌≡◌, ◌≤◌, OnOk};
 ghost use Rattle.argon2.specs.Argon2.{context_of};
 ghost use Rattle.argon2.specs.Rfc9106.{AreShort, block_count};
 ghost use Rattle.argon2.specs.Hashing.{fill_refusal, output_refusal, refusal_of, IsOutputLength};
