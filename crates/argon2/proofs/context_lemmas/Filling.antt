@@ -49,16 +49,13 @@ module _ (ctx : Context) (sizes : Sizes ctx) (first : FirstColumns) (pass lane c
       let b = made_block ctx (in_memory ctx memory) pass lane column in
       let within = mul-add-lt lane q column ctx.p_cost st.in_lanes st.in_columns in
       let size = h.size in
-      let own : (l : ℕ) → l ≡ lane → (done l ≡ column) × (done' l ≡ suc column) = λ l e. (ap done e ∙ now, ap done' e ∙ then') in
-      let kept : (l c : ℕ) → c < q → (l ≡ lane → c ≢ column)
-      → slice_index_or (slice_set memory (lane * q + column) b) (l * q + c) [] ≡ slice_index_or memory (l * q + c) [] =
-      λ l c below apart. set_apart q l c lane column memory b below st.in_columns apart in
+      let kept = λ (l c : ℕ). set_apart q l c lane column memory b in
       record {
         size = length-set memory (lane * q + column) b ∙ h.size;
         new = λ l c a below lt.
             let same = get_or-set_same memory (lane * q + column) b [] (omega arith) in
-            grind (arith, kept l c, h.new l c, own l, others l, step_makes);
-        old = λ r l c p a below le. grind (arith, kept l c, h.old r l c, own l, others l);
+            grind (arith, kept l c, h.new l c, others l, step_makes);
+        old = λ r l c p a below le. grind (arith, kept l c, h.old r l c, others l);
       }
 
 -- ---- a slice, by what is left of a schedule

@@ -13,29 +13,6 @@ pub IsFilledUpTo-like : (ctx : Context) (first : FirstColumns) (pass : ℕ) (don
 IsFilledUpTo-like ctx first pass done done' memory old new same is =
     grind (arith, HasBlocksUpTo-like, HasPositionsUpTo-like)
 
--- before the first lane no lane has begun the slice
-pub in_order-first : (ctx : Context) (pass slice l : ℕ) → columns_before ctx pass slice ≡ in_order ctx pass slice 0 (columns_before ctx pass slice) l
-in_order-first ctx pass slice l = grind (arith, nat_tests)
-
--- a lane that is done is followed by the next
-pub in_order-next : (ctx : Context) (pass slice lane l : ℕ)
-    → in_order ctx pass slice lane ((slice + 1) * segment_length ctx) l
-    ≡ in_order ctx pass slice (lane + 1) (columns_before ctx pass slice) l
-in_order-next ctx pass slice lane l = grind (arith, nat_tests)
-
--- a slice whose lanes are done is followed by the next
-pub in_order-last : (ctx : Context) (pass slice lane l : ℕ) → l < lane
-    → in_order ctx pass slice lane (columns_before ctx pass slice) l ≡ columns_before ctx pass (slice + 1)
-in_order-last ctx pass slice lane l below = grind (arith, nat_tests)
-
--- in a slice each lane has the columns before it, and none behind it
-in_order-within : (ctx : Context) (pass slice lane column l : ℕ) → InSlice (segment_length ctx) column slice
-    → (slice * segment_length ctx ≤ in_order ctx pass slice lane column l)
-    × (in_order ctx pass slice lane column l ≤ (slice + 1) * segment_length ctx)
-in_order-within ctx pass slice lane column l here =
-    let few = turn_count-le ctx pass slice in
-    (grind (arith, nat_tests), grind (arith, nat_tests))
-
 -- a step fills a column more of its lane
 pub filled_step : (ctx : Context) → Sizes ctx → (first : FirstColumns) (pass slice lane column : ℕ) (memory : Memory)
     (old new : List ℕ) → pass < ctx.t_cost → IsStep ctx pass lane column → InSlice (segment_length ctx) column slice
@@ -43,12 +20,15 @@ pub filled_step : (ctx : Context) → Sizes ctx → (first : FirstColumns) (pass
     → IsFilledUpTo ctx first pass (in_order ctx pass slice lane (column + 1)) (step ctx memory pass lane column) old
     (slice_set new (position_index ctx pass lane column) (reference_place ctx memory pass lane column))
 filled_step ctx sizes first pass slice lane column memory old new t st here is =
+    let s = segment_length ctx in
+    let few = turn_count-le ctx pass slice in
     let done = in_order ctx pass slice lane column in
     let done' = in_order ctx pass slice lane (column + 1) in
     let now : done lane ≡ column = grind (arith, nat_tests) in
     let then' : done' lane ≡ suc column = grind (arith, nat_tests) in
     let others : (l : ℕ) → l ≢ lane → done' l ≡ done l = λ l ne. grind (arith, nat_tests) in
-    let within = λ (l : ℕ) (_ : l < ctx.p_cost). in_order-within ctx pass slice lane column l here in
+    let within : (l : ℕ) → l < ctx.p_cost → (slice * s ≤ done l) × (done l ≤ (slice + 1) * s) =
+    λ l _. (grind (arith, nat_tests), grind (arith, nat_tests)) in
     let place = step_answers ctx sizes first pass lane column slice done memory st here now within is.blocks in
     record {
       blocks = step_fills ctx sizes first pass lane column slice done memory st here now within is.blocks done' then' others;

@@ -51,20 +51,15 @@ parts_of ctx slice lane memory four own =
       in_before = λ k l i below a lt.
           let row = mul-add-lt k p l slice below a in
           let place = mul-add-lt (k * p + l) s i (p * slice) row lt in
-          get_or-take (slice * slice_length ctx) memory ((k * p + l) * s + i) [] (omega arith)
-          ∙ sym (in_lanes_at ctx memory k l i (omega arith) a lt);
+          grind (arith, get_or-take (slice * slice_length ctx) memory ((k * p + l) * s + i), in_lanes_at ctx memory k l i);
       in_own = λ i lt.
           let start = slice * slice_length ctx + lane * s in
-          let place : start + i ≡ (slice * p + lane) * s + i = omega arith in
-          get_or-take s (drop start memory) i [] lt ∙ get_or-drop start memory i []
-          ∙ ap (λ n. slice_index_or memory n []) place ∙ sym (in_lanes_at ctx memory slice lane i four own lt);
+          grind (arith, get_or-take s (drop start memory) i, get_or-drop start memory i, in_lanes_at ctx memory slice lane i);
       in_after = λ k l i above below a lt.
           let j = k - suc slice in
           let more : suc slice + j ≡ k = omega arith in
-          let place : suc slice * (p * s) + ((j * p + l) * s + i) ≡ ((suc slice + j) * p + l) * s + i = omega arith in
-          get_or-drop (suc slice * slice_length ctx) memory ((j * p + l) * s + i) []
-          ∙ ap (λ n. slice_index_or memory n []) (place ∙ ap (λ x. (x * p + l) * s + i) more)
-          ∙ sym (in_lanes_at ctx memory k l i below a lt);
+          let place = ap (λ x. (x * p + l) * s + i) more in
+          grind (arith, get_or-drop (suc slice * slice_length ctx) memory ((j * p + l) * s + i), in_lanes_at ctx memory k l i);
     }
 
 -- a slice whose segments are filled is filled
@@ -121,13 +116,8 @@ slices_begun ctx first old memory is = filled_at_first ctx is.sizes first (in_la
       let s = segment_length ctx in
       let two = is.sizes.two_columns in
       let within = mul-add-lt lane s column ctx.p_cost l (omega arith) in
-      let zero' : lane * lane_length ctx + column ≡ lane * lane_length ctx + (0 * s + column) = omega arith in
-      let place : (0 * ctx.p_cost + lane) * s + column ≡ lane * s + column = omega arith in
-      ap (λ n. slice_index_or (in_lanes ctx memory) n []) zero'
-      ∙ in_lanes_at ctx memory 0 lane column (omega arith) l (omega arith)
-      ∙ ap (λ n. slice_index_or memory n []) place
-      ∙ sym (get_or-take (slice_length ctx) memory (lane * s + column) [] (omega arith))
-      ∙ is.columns lane column l small;
+      grind (arith, in_lanes_at ctx memory 0 lane column, get_or-take (slice_length ctx) memory (lane * s + column),
+      is.columns lane column);
 })
 
 module _ (ctx : Context) (first : FirstColumns) (memory : ℕ → ℕ → Memory) (is : IsFilledBySegments ctx first memory) where
@@ -172,10 +162,6 @@ segments_give_tag ctx password salt n memory is =
     let filled = next_pass ctx first last (in_lanes ctx end) (slices_filled ctx first memory is last 4 (omega arith)
     (omega arith) (passes_filled ctx first memory is last (omega arith))) in
     ap (λ block. long_hash n (bytes_of block)) (xor_lanes_cong ctx _ _ (λ lane l.
-    let place : 3 * slice_length ctx + (lane * s + (s - 1)) ≡ (3 * p + lane) * s + (s - 1) = omega arith in
     let column : 3 * s + (s - 1) ≡ lane_length ctx - 1 = omega arith in
-    get_or-drop (3 * slice_length ctx) end (lane * s + (s - 1)) []
-    ∙ ap (λ n. slice_index_or end n []) place
-    ∙ sym (in_lanes_at ctx end 3 lane (s - 1) (omega arith) l (omega arith))
-    ∙ filled.old last lane (3 * s + (s - 1)) refl l (omega arith) (omega arith)
-    ∙ ap (block_of ctx first last lane) column))
+    grind (arith, get_or-drop (3 * slice_length ctx) end (lane * s + (s - 1)), in_lanes_at ctx end 3 lane (s - 1),
+    filled.old last lane (3 * s + (s - 1)))))

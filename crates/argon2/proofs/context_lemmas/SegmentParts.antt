@@ -54,16 +54,7 @@ pub ahead_step : (ctx : Context) → Sizes ctx → (first : FirstColumns) (pass 
     → HasBlocksUpTo ctx first pass (ahead ctx pass slice lane column) memory
     → HasBlocksUpTo ctx first pass (ahead ctx pass slice lane (column + 1)) (step ctx memory pass lane column)
 ahead_step ctx sizes first pass slice lane column memory st here is =
-    let done = ahead ctx pass slice lane column in
-    let done' = ahead ctx pass slice lane (column + 1) in
-    let now : done lane ≡ column = grind (arith, nat_tests) in
-    let then' : done' lane ≡ suc column = grind (arith, nat_tests) in
-    let others : (l : ℕ) → l ≢ lane → done' l ≡ done l = λ l ne. grind (arith, nat_tests) in
     let few = turn_count-le ctx pass slice in
-    step_fills ctx sizes first pass lane column slice done memory st here now
-    (λ l _. (grind (arith, nat_tests), grind (arith, nat_tests))) is done' then' others
-
--- it begins with the others
-pub ahead-first : (ctx : Context) (pass slice lane l : ℕ)
-    → columns_before ctx pass slice ≡ ahead ctx pass slice lane (columns_before ctx pass slice) l
-ahead-first ctx pass slice lane l = grind (arith, nat_tests)
+    step_fills ctx sizes first pass lane column slice (ahead ctx pass slice lane column) memory st here (grind (arith, nat_tests))
+    (λ l _. (grind (arith, nat_tests), grind (arith, nat_tests))) is (ahead ctx pass slice lane (column + 1))
+    (grind (arith, nat_tests)) (λ l ne. grind (arith, nat_tests))

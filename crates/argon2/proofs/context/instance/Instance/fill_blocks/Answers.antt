@@ -1,7 +1,7 @@
-use Rattle.argon2.proofs.Imports.{◌≡◌, drop, map, take, ap, ◌∙◌, add-one, arith, rules, length-map, length-take-le, block_count, first_block, matrix_of, blocks_of, slices_calls}
+use Rattle.argon2.proofs.Imports.{◌≡◌, drop, map, take, ap, ◌∙◌, add-one, arith, nat_tests, rules, length-map, length-take-le, block_count, first_block, matrix_of, blocks_of, slices_calls}
 use Rattle.argon2.proofs.LentMemory.{has_matrix, lanes_begin, words_behind}
 use Rattle.argon2.proofs.context_lemmas.Counts.{calls_before-few, passes_calls, passes_calls-all}
-use Rattle.argon2.proofs.context_lemmas.InOrder.{filled_first, filled_last, filled_next, in_order-first, in_order-last, in_order-next, IsFilledUpTo-like}
+use Rattle.argon2.proofs.context_lemmas.InOrder.{filled_first, filled_last, filled_next, IsFilledUpTo-like}
 use Rattle.argon2.proofs.context.instance.Instance.fill_blocks.Goals as goal
 
 pub loop-pass-init : goal.loop-pass-init
@@ -18,8 +18,7 @@ loop-pass-init g c =
 
 pub loop-lane-init : goal.loop-lane-init
 loop-lane-init g c = record {
-  filled = IsFilledUpTo-like _ _ _ _ _ _ _ _ (λ l _. in_order-first c.args.self.now c.loop-pass.pass c.loop-slice.slice l)
-      c.loop-slice.invariant.filled;
+  filled = IsFilledUpTo-like _ _ _ _ _ _ _ _ (λ l _. grind (arith, nat_tests)) c.loop-slice.invariant.filled;
   watched = grind (arith, c.loop-slice.invariant.watched);
 }
 
@@ -31,7 +30,7 @@ fill_columns-requires-clause-count g c =
 
 pub loop-lane-preserved : goal.loop-lane-preserved
 loop-lane-preserved g c = record {
-  filled = IsFilledUpTo-like _ _ _ _ _ _ _ _ (λ l _. in_order-next c.args.self.now c.loop-pass.pass c.loop-slice.slice c.loop-lane.lane l)
+  filled = IsFilledUpTo-like _ _ _ _ _ _ _ _ (λ l _. grind (arith, nat_tests))
       (c.fill_columns.ensures.filled _ _ c.loop-lane.invariant.filled);
   watched = grind (arith, c.fill_columns.ensures.watched, c.loop-lane.invariant.watched);
 }
@@ -42,9 +41,7 @@ loop-slice-preserved g c =
     let all : c.loop-lane.lane ≡ c.args.self.now.p_cost = omega arith in
     let last = rw all at c.loop-lane.invariant.watched in
     record {
-      filled = IsFilledUpTo-like _ _ _ _ _ _ _ _
-          (λ l below. in_order-last c.args.self.now c.loop-pass.pass c.loop-slice.slice c.loop-lane.lane l (omega arith))
-          c.loop-lane.invariant.filled;
+      filled = IsFilledUpTo-like _ _ _ _ _ _ _ _ (λ l below. grind (arith, nat_tests)) c.loop-lane.invariant.filled;
       watched = rw add-one (grind (arith, last));
     }
 

@@ -1,7 +1,7 @@
 use Rattle.argon2.proofs.Imports.{◌≡◌, ◌+◌, ◌-◌, ◌*◌, ◌/◌, ◌<◌, refl, ◌∙◌, arith, nat_tests, segment_length, columns_before}
 use Rattle.argon2.proofs.context_lemmas.Filling.{HasBlocksUpTo-like}
 use Rattle.argon2.proofs.context_lemmas.SegmentColumns.{a_column, a_step, in_lane, same_addresses}
-use Rattle.argon2.proofs.context_lemmas.SegmentParts.{ahead, ahead-first, ahead_step}
+use Rattle.argon2.proofs.context_lemmas.SegmentParts.{ahead, ahead_step}
 use Rattle.argon2.proofs.context.instance.Instance.fill_own.Goals as goal
 
 pub loop-index-init : goal.loop-index-init
@@ -16,7 +16,7 @@ loop-index-init c =
     record {
       size = refl;
       filled = λ first memory parts is.
-          let like = HasBlocksUpTo-like ctx first c.args.pass _ _ memory (λ l _. ahead-first ctx c.args.pass c.args.slice c.args.lane l) in
+          let like = HasBlocksUpTo-like ctx first c.args.pass _ _ memory (λ l _. grind (arith, nat_tests)) in
           (memory, (parts, rw (← begins) (like is)));
       addresses = c.addresses-addresses.ensures.block ∙ same_addresses ctx c.args.pass c.args.lane c.args.slice _ _ serves;
     }
