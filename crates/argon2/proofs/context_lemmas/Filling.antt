@@ -145,9 +145,7 @@ filled_at_last ctx sizes first (suc r) memory t h =
     fill_by_all (λ place. block_of ctx first (ctx.t_cost - 1) (place / q) (place % q)) memory (block_count ctx) [] h.size (λ n lt.
     let lane : n / q < ctx.p_cost = div_below n q ctx.p_cost (omega arith) lt in
     let column : n % q < q = mod-lt n (omega arith) in
-    ap (λ x. slice_index_or memory x []) (sym (div-add-mod' n q))
-    ∙ h.old r (n / q) (n % q) refl lane column (grind (arith, nat_tests))
-    ∙ ap (λ x. block_of ctx first x (n / q) (n % q)) p)
+    grind (arith, div-add-mod' n q, h.old r (n / q) (n % q), nat_tests))
 
 -- any schedules lead from the first two columns to the matrix
 pub schedules_fill : (ctx : Context) → Sizes ctx → (first : FirstColumns) (schedules : ℕ → ℕ → List ℕ) → AreSchedules ctx schedules

@@ -13,8 +13,7 @@ matrix_at ctx sizes first lane column a b =
     let q = lane_length ctx in
     let n = lane * q + column in
     let below : n < q * ctx.p_cost = mul-add-lt lane q column ctx.p_cost a b in
-    get_or-map-range_with_len (λ place. block_of ctx first (ctx.t_cost - 1) (place / q) (place % q)) 0 (block_count ctx) n n []
-    (omega arith) (omega arith)
+    get_or-map-range_with_len _ 0 (block_count ctx) n n [] (omega arith) (omega arith)
     ∙ rw (div-mul-add lane q column b, mod-mul-add lane q column b) refl
 
 -- equal blocks of each lane have one exclusive or
@@ -41,6 +40,5 @@ pub tag_of_matrix : (ctx : Context) → Sizes ctx → (password salt : List ℕ)
 unfolding matrix_of tag_of last_block
 tag_of_matrix ctx sizes password salt n memory e =
     let two = sizes.two_columns in
-    ap (λ block. long_hash n (bytes_of block)) (xor_lanes_cong ctx _ _
-    (λ lane h. ap (λ (m : Memory). slice_index_or m (lane * lane_length ctx + (lane_length ctx - 1)) []) e
-    ∙ matrix_at ctx sizes (first_block ctx password salt n) lane (lane_length ctx - 1) h (omega arith)))
+    rw e (ap (λ block. long_hash n (bytes_of block)) (xor_lanes_cong ctx _ _
+    (λ lane h. matrix_at ctx sizes (first_block ctx password salt n) lane (lane_length ctx - 1) h (omega arith))))

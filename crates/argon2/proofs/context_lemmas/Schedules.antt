@@ -146,9 +146,6 @@ schedules_agree ctx sizes pass slice four xs ys ix iy memory size =
     ext_get_or [] _ _ (one ∙ sym (seen 0 ys iy).size) (λ n lt.
     let lane : n / q < ctx.p_cost = div_below n q ctx.p_cost (omega arith) (omega arith) in
     let column : n % q < q = mod-lt n (omega arith) in
-    subst (λ place. slice_index_or (run ctx pass slice xs memory) place [] ≡ slice_index_or (run ctx pass slice ys memory) place [])
-    (div-add-mod' n q)
-    ((seen (n / q) xs ix).same (n / q) (n % q) lane column (inl refl)
-    ∙ ap (λ turns. slice_index_or (alone ctx pass slice (n / q) turns memory) (n / q * q + n % q) [])
-    (ix.turns (n / q) lane ∙ sym (iy.turns (n / q) lane))
-    ∙ sym ((seen (n / q) ys iy).same (n / q) (n % q) lane column (inl refl))))
+    let one = (seen (n / q) xs ix).same (n / q) (n % q) lane column (inl refl) in
+    let other = (seen (n / q) ys iy).same (n / q) (n % q) lane column (inl refl) in
+    grind (arith, div-add-mod' n q, ix.turns (n / q) lane, iy.turns (n / q) lane))

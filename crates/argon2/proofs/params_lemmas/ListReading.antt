@@ -34,13 +34,7 @@ read_next read name item rest before once = let same = (bytes_eq-Decides item.0 
 -- one more item adds what is found under each name
 items_next : (item : Pair) (rest : List Pair) (before : Items) → value_of item.0 rest ≡ None
     → items_over rest (items_over (item ∷ []) before) ≡ items_over (item ∷ rest) before
-items_next item rest before once = rw (
-  read_next number_of (codes "m") item rest before.m once,
-  read_next number_of (codes "t") item rest before.t once,
-  read_next number_of (codes "p") item rest before.p once,
-  read_next (short_bytes 8) (codes "keyid") item rest before.keyid once,
-  read_next (short_bytes 32) (codes "data") item rest before.associated once,
-) refl
+items_next item rest before once = simp read_next
 
 -- ---- one item more
 

@@ -9,6 +9,3 @@ returns-clause-tag g c =
     ∙ ap (λ block. long_hash (length c.args.out.now) (bytes_of block))
     (last_of_front g.B.MemoryBlock.words _ _ _ _ c.block_count.ensures.value c.lane_length.ensures.value)
     ∙ tag_of_matrix _ filled.sizes c.args.pwd.now c.args.salt.now _ _ filled.matrix)
-
-pub returns-clause-filled : goal.returns-clause-filled
-returns-clause-filled g c = rw c.new-instance.ensures.value at c.fill_blocks.ensures.filled

@@ -3,7 +3,3 @@ use Rattle.argon2.proofs.params.text.take_number.Goals as goal
 
 pub returns : goal.returns
 returns c = rw (number_again c.args.value.now c.in-Ok.n (grind arith) c.in-Ok.ensures.found) refl
-
-pub returns-in_default : goal.returns-in_default
-returns-in_default c =
-    rw (number_none c.args.value.now (λ n small is. c.in_default.not-Ok n (c.decimal.ensures.only n small is))) refl

@@ -23,13 +23,3 @@ returns-clause-step g c =
     let set = map-set f m c.place-place.result c.put_mixed.new.self in
     let by = made_by_places ctx (map f m) at.pass at.lane (column_of ctx at) _ word in
     cc
-
-pub returns-clause-place : goal.returns-clause-place
-returns-clause-place g c =
-    let ctx = c.args.self.now in
-    let at = c.args.at in
-    let q = c.place-previous.ensures.value ∙ ap (λ column. at.lane * lane_length ctx + column) c.previous_column.ensures.value in
-    let word = c.word-word.ensures _ (first_word_read g.B.MemoryBlock.words ctx c.args.memory.now at.pass at.lane (column_of ctx at) _ _ _
-    (search rules) q c.first_word.ensures) in
-    c.place-reference.ensures.value ∙ (λ i. c.reference-lane.ensures.lane i * lane_length ctx + c.reference-lane.ensures.column i)
-    ∙ sym (place_by_word ctx _ at.pass at.lane (column_of ctx at) _ word)
