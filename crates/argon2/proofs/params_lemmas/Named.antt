@@ -21,6 +21,9 @@ version_numbered-number version = grind arith
 pub version_numbered-no : (number : ℕ) → ((version : Version) → number ≢ version_number version) → version_numbered number ≡ None
 version_numbered-no number other = grind (arith, nat_tests, other V0x10, other V0x13)
 
+-- what no name and no number is found by
+pub ruleset not_found = (algorithm_named-no, version_numbered-no)
+
 -- what a name in a text is answered is what is found by it
 pub algorithm_named-text : (name : List ℕ) (r : Result Algorithm HashError)
     → IsReadBy algorithm_name NoAlgorithm name r → algorithm_named name ≡ result_ok r

@@ -94,6 +94,7 @@ fn asked_algorithm(name: Option<&str>) -> Result<Algorithm>
 }
 
 // The version of a number, or 0x13.
+#[tactic(auto, using(crate::proofs::params_lemmas::Named::not_found))]
 fn asked_version(number: Option<u32>) -> Result<Version>
     ensures { outcome_of (λ v. v) result ≡ version_or_default number }
 {

@@ -27,6 +27,7 @@ impl Settings {
     ghost use Rattle.argon2.specs.StoredTexts.{settings_value, shown_settings};
 
     // The settings of a PHC text, given its parameters.
+    #[tactic(auto, using(crate::proofs::params_lemmas::Named::not_found))]
     pub(crate) fn with_params(hash: &PasswordHash, params: Params) -> Result<Settings>
         requires { asked_of (phc_of hash.now) ≡ Ok (parameters_of params) }
         ensures { outcome_of settings_value result ≡ shown_settings (phc_of hash.now) }
