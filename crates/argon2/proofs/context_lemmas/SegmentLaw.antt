@@ -98,11 +98,10 @@ slice_fills ctx sizes first pass slice memory memory' four fills before after h 
           let k = c / s in
           let i = c % s in
           let small : i < s = mod-lt c (omega arith) in
-          let is = div-add-mod' c s in
           let here = in_slice s c two below in
           let above = le-div (suc slice) c s (omega arith) (omega arith) in
-          let old = h.old r l (k * s + i) turn a (omega arith) (omega arith) in
-          subst (Is r l) is
+          let old = h.old r l (k * s + i) turn a (omega (arith, div-add-mod' c s)) (omega (arith, div-add-mod' c s)) in
+          subst (Is r l) (div-add-mod' c s)
           (cc ((one l a).in_after k l i above here.one_of_four a small, (other l a).in_after k l i above here.one_of_four a small));
     }
 

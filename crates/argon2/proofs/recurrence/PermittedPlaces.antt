@@ -67,18 +67,11 @@ module _ (ctx : Context) (sizes : Sizes ctx) (column : ℕ) (in_columns : column
       let l = length-columns 0 0 (column / segment_length ctx * segment_length ctx) in
       get_or-columns 0 0 _ i (omega arith) ∙ omega arith
   get_or-finished (suc pass) i h =
-      let from = (column / segment_length ctx + 1) * segment_length ctx in
-      let to = column / segment_length ctx * segment_length ctx in
-      let q = lane_length ctx in
-      let xs = columns pass from q in
-      let ys = columns (suc pass) 0 to in
-      let old : length xs ≡ q - from = length-columns pass from q in
-      let new : length ys ≡ to - 0 = length-columns (suc pass) 0 to in
-      let both : length (xs ++ ys) ≡ length xs + length ys = length-append xs ys in
-      let side = cases_lt i (length xs) in
+      let xs = columns pass ((column / segment_length ctx + 1) * segment_length ctx) (lane_length ctx) in
+      let ys = columns (suc pass) 0 (column / segment_length ctx * segment_length ctx) in
       let left = get_or_append_left xs ys (0, 0) i in
       let right = get_or-append_right xs ys (length xs) i (0, 0) refl in
-      grind (arith, bounds, get_or-columns pass from q i, get_or-columns (suc pass) 0 to (i - length xs), nat_tests)
+      grind (arith, bounds, length-append xs ys, length-columns, get_or-columns, nat_tests)
 
   -- how many permitted blocks there are
   pub length-permitted : (pass lane other : ℕ) → (pass ≡ 0 → 2 ≤ column)
@@ -88,13 +81,8 @@ module _ (ctx : Context) (sizes : Sizes ctx) (column : ℕ) (in_columns : column
       if index == 0 then finished - 1 else finished + (if other == lane then index - 1 else 0))
   unfolding permitted
   length-permitted pass lane other later =
-      let s = segment_length ctx in
-      let slice = column / s in
-      let f = finished_segments ctx pass slice in
-      let split : slice * s + column % s ≡ column = div-add-mod' column s in
-      let front = length-take (length f - 1) f in
-      let own = length-columns pass (slice * s) (column - 1) in
-      grind (arith, length-finished pass, length-append f (columns pass (slice * s) (column - 1)), length-append f [], nat_tests)
+      let split = div-add-mod' column (segment_length ctx) in
+      grind (arith, length-finished pass, length-columns, length-append {A = ℕ × ℕ}, length-take {A = ℕ × ℕ}, nat_tests)
 
   -- some block is permitted, if in the first slice of all the lane itself is asked
   pub some_permitted : (pass lane other : ℕ) → (pass ≡ 0 → 2 ≤ column)
@@ -114,18 +102,11 @@ module _ (ctx : Context) (sizes : Sizes ctx) (column : ℕ) (in_columns : column
       ≡ finished_column ctx pass (column / segment_length ctx) i
   unfolding permitted
   get_or-permitted pass lane other i h =
-      let s = segment_length ctx in
-      let f = finished_segments ctx pass (column / s) in
-      let own = columns pass (column / s * s) (column - 1) in
-      let nil : List (ℕ × ℕ) = [] in
-      let n = length-finished pass in
-      let all = length-append f own in
-      let same = length-append f nil in
-      let size = length-columns pass (column / s * s) (column - 1) in
-      let front = length-take (length f - 1) f in
+      let f = finished_segments ctx pass (column / segment_length ctx) in
+      let own = columns pass (column / segment_length ctx * segment_length ctx) (column - 1) in
+      let size = length-finished pass in
       let taken = get_or-take (length f - 1) f i (0, 0) in
       let left = get_or_append_left f own (0, 0) i in
       let right = get_or-append_right f own (length f) i (0, 0) refl in
-      let alone = get_or_append_left f nil (0, 0) i in
-      let side = cases_lt i (length f) in
-      grind (arith, bounds, get_or-finished pass i, get_or-columns pass (column / s * s) (column - 1) (i - length f), nat_tests)
+      let alone = get_or_append_left f [] (0, 0) i in
+      grind (arith, bounds, get_or-finished pass i, length-columns, get_or-columns, length-append {A = ℕ × ℕ}, length-take {A = ℕ × ℕ}, nat_tests)
