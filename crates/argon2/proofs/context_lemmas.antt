@@ -1,8 +1,8 @@
 pub mod Counts
 pub mod Filling
-pub mod FirstColumns
 pub mod InMemory
 pub mod InOrder
+pub mod LanesFit
 pub mod LastColumn
 pub mod ReferencePlaces
 pub mod Refusing
