@@ -25,7 +25,7 @@ pub use Rattle.std.specs.Result.{IsErr, IsErrAnd, result_ok}
 pub use Rattle.argon2.specs.Argon2.{context_of, context_under, context_with, own_bytes, own_parameters, parameters_of, secret_of, settings_of}
 pub use Rattle.argon2.specs.Hashing.{ChecksFirst, IsBegun, KeepsOtherColumns, KeepsRest, blocks_of, refusal_of}
 pub use Rattle.argon2.specs.Laws.{AreAlike, AreSchedules, Begins, IsRecurrence}
-pub use Rattle.argon2.specs.Layout.{IsSize, Memory, Sizes, place_of}
+pub use Rattle.argon2.specs.Layout.{IsSize, MayReferTo, Memory, Sizes, place_of}
 unfoldable pub use Rattle.argon2.specs.Layout.{addresses_at, matrix, matrix_of, reference_places}
 pub use Rattle.argon2.specs.ListedParameters.{Items, bytes_item, found_of, item_fault, item_taken, items_fault, items_of, items_over, items_read, list_of, parameter_items, params_of}
 pub use Rattle.argon2.specs.Login.{AddStep, Event, LoginAnswer, adding, logging_in, store_of, target_value}

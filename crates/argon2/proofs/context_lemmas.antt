@@ -2,7 +2,6 @@ pub mod Counts
 pub mod Filling
 pub mod InMemory
 pub mod InOrder
-pub mod LanesFit
 pub mod LastColumn
 pub mod ReferencePlaces
 pub mod Refusing

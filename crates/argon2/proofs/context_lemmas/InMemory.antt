@@ -1,7 +1,7 @@
--- What a step reads of a memory, by places.
+-- Where lanes end in a memory, and what a step reads of it, by places.
 use Rattle.argon2.proofs.Imports.{◌≡◌, ℕ, ◌+◌, ◌*◌, ◌<◌, ◌&&◌, List, [], length, map, refl, sym, ap, ◌∙◌, arith, slice_index, slice_index_or, nat_lt, ◌==◌, if◌then◌else◌, mul-add-lt}
 use Rattle.argon2.proofs.Imports.{nat_tests, get_or-map, xor_blocks-comm, mixed, xor_blocks, Context, block_count, lane_length, made_block, previous, reference, reference_of, reference_word}
-use Rattle.argon2.proofs.Imports.{Memory, place_of, in_memory, previous_place, reference_place}
+use Rattle.argon2.proofs.Imports.{Memory, place_of, in_memory, previous_place, reference_place, ◌^◌, ◌≤◌, mul-le-mul_left, mul-le-mul_right, Sizes}
 
 -- the place of a lane and a column is within the memory
 pub place_below : (ctx : Context) (lane column : ℕ) → lane < ctx.p_cost → column < lane_length ctx
@@ -47,3 +47,19 @@ pub place_by_word : (ctx : Context) (memory : Memory) (pass lane column word : �
     → reference_place ctx memory pass lane column ≡ place_of ctx (reference ctx pass lane column word)
 unfolding reference_place reference_of
 place_by_word ctx memory pass lane column word is = rw is refl
+
+-- a lane ends within the lanes
+pub lane_within : (lane width lanes : ℕ) → lane < lanes → lane * width + width ≤ lanes * width
+lane_within lane width lanes below =
+    let end : (lane + 1) * width ≤ lanes * width = mul-le-mul_right width (omega arith) in omega arith
+
+-- lanes that have no more blocks than they have columns end where a number of 32 bits does
+pub lanes_fit : (ctx : Context) (width : ℕ) → width ≤ lane_length ctx → Sizes ctx → ctx.p_cost * width < 2 ^ 32
+lanes_fit ctx width most sizes =
+    let all : ctx.p_cost * width ≤ ctx.p_cost * lane_length ctx = mul-le-mul_left ctx.p_cost most in
+    let memory = sizes.in_memory in
+    let small = sizes.m_cost in
+    omega arith
+
+-- where a lane ends
+pub ruleset lane_fits = (lane_within, lanes_fit)

@@ -32,16 +32,11 @@ abbrev fault_with : Parameters → Option ℕ → Option Error
 fault_with v o = first_fault v.m_cost v.t_cost v.p_cost o
 
 module _ (target : Target) (is : IsTarget target) (password salt : List ℕ) where
-  valid : fault_with target.settings.parameters target.settings.parameters.output_len ≡ None
-  valid = none_of (fault_with target.settings.parameters target.settings.parameters.output_len) is.valid
-
-  lanes : target.settings.parameters.p_cost < 2 ^ 32
-  lanes = let costs = valid in grind (arith, nat_tests)
-
   -- an output length is at least 4, and so is the one of a hash if none is set
-  sized_valid : (fault_with target.settings.parameters (Some (tag_length target.settings)) ≡ None)
-      × (4 ≤ tag_length target.settings)
-  sized_valid = let costs = valid in grind (arith, nat_tests)
+  costs : (target.settings.parameters.p_cost < 2 ^ 32) × (4 ≤ tag_length target.settings)
+      × (fault_with target.settings.parameters (Some (tag_length target.settings)) ≡ None)
+  costs = let valid = none_of (fault_with target.settings.parameters target.settings.parameters.output_len) is.valid in
+      grind (arith, nat_tests)
 
   abbrev hash : List ℕ
   hash = tag_of (context_with target.settings target.secret) password salt (tag_length target.settings)
@@ -51,16 +46,16 @@ module _ (target : Target) (is : IsTarget target) (password salt : List ℕ) whe
 
   -- its parameters are read again
   parameters_shown : params_of (Some (length hash)) (list_of target.settings.parameters) ≡ Ok (with_tag_length target.settings).parameters
-  parameters_shown = rw hash_bytes.1 (read_again _ _ _ _ _ (Some (tag_length target.settings)) is.m_cost is.t_cost (lanes)
-      is.keyid.0 is.associated.0 is.keyid.2 is.associated.2 sized_valid.0)
+  parameters_shown = rw hash_bytes.1 (read_again _ _ _ _ _ (Some (tag_length target.settings)) is.m_cost is.t_cost costs.0
+      is.keyid.0 is.associated.0 is.keyid.2 is.associated.2 costs.2)
 
   pub made_is_phc : HasBytes 8 48 salt → IsPhc (hash_value target password salt)
   made_is_phc h = record {
     algorithm = grind arith;
     version = grind arith;
-    params = listed_good _ _ _ _ _ is.m_cost is.t_cost (lanes) is.keyid.0 is.associated.0 is.keyid.2 is.associated.2;
+    params = listed_good _ _ _ _ _ is.m_cost is.t_cost costs.0 is.keyid.0 is.associated.0 is.keyid.2 is.associated.2;
     salt = h;
-    hash = (hash_bytes.0, rw hash_bytes.1 sized_valid.1, rw hash_bytes.1 is.tag_length);
+    hash = (hash_bytes.0, rw hash_bytes.1 costs.1, rw hash_bytes.1 is.tag_length);
     salted = λ _. refl;
   }
 

@@ -1,7 +1,7 @@
 -- Which blocks a block is made of. All else rests on two laws, `reference_reads` and `made_cong`.
 use Rattle.argon2.proofs.Imports.{◌≡◌, ℕ, zero, suc, ◌+◌, ◌-◌, ◌*◌, ◌/◌, ◌%◌, ◌^◌, ◌<◌, ◌≤◌, ◌⊎◌, [], length, refl, sym, subst, arith, ◌==◌, mod-lt, range_with_len, All}
 use Rattle.argon2.proofs.Imports.{length-range_with_len, get_or-range_with_len, cond_both, eqb-true, nat_tests, Blocks, Context, columns, finished_segments, lane_length, made_block}
-use Rattle.argon2.proofs.Imports.{permitted, previous, reference, reference_index, reference_lane, reference_of, reference_word, segment_length, Sizes, IsPlaceFor, IsStep}
+use Rattle.argon2.proofs.Imports.{permitted, previous, reference, reference_index, reference_lane, reference_of, reference_word, segment_length, MayReferTo, Sizes, IsPlaceFor, IsStep}
 use Rattle.std.proofs.lemmas.List.Elements.{All-map, All-append, All-take, All-get_or, All-nil}
 use Rattle.argon2.proofs.recurrence.PermittedPlaces.{InSlice, in_slice, some_permitted}
 
@@ -55,18 +55,12 @@ module _ (ctx : Context) (sizes : Sizes ctx) (lane column other : ℕ) (in_lanes
 
 -- ---- each block is made of its sources alone
 
--- the lane referred to is one of the lanes
-lane_below : (ctx : Context) → Sizes ctx → (pass lane column w : ℕ) → lane < ctx.p_cost
-    → reference_lane ctx pass lane column w < ctx.p_cost
+-- the lane referred to is one of the lanes, and in the first slice of all the block's own
+lane_referred : (ctx : Context) → Sizes ctx → (pass lane column w : ℕ) → lane < ctx.p_cost
+    → MayReferTo ctx pass lane column (reference_lane ctx pass lane column w)
 unfolding reference_lane
-lane_below ctx sizes pass lane column w h =
+lane_referred ctx sizes pass lane column w h =
     let small = mod-lt (w / 2 ^ 32) sizes.some_lane in grind (arith, nat_tests)
-
--- in the first slice of all the lane referred to is the block's own
-lane_alone : (ctx : Context) (pass lane column w : ℕ) → pass ≡ 0
-    → column / segment_length ctx ≡ 0 → reference_lane ctx pass lane column w ≡ lane
-unfolding reference_lane
-lane_alone ctx pass lane column w p slice = grind (arith, nat_tests)
 
 -- whatever the word, the block that it takes is a source
 pub reference_reads : (ctx : Context) → Sizes ctx → (pass lane column w : ℕ)
@@ -76,13 +70,12 @@ pub reference_reads : (ctx : Context) → Sizes ctx → (pass lane column w : �
 unfolding reference reference_index
 reference_reads ctx sizes pass lane column w st =
     let other = reference_lane ctx pass lane column w in
-    let below : other < ctx.p_cost = lane_below ctx sizes pass lane column w st.in_lanes in
+    let may = lane_referred ctx sizes pass lane column w st.in_lanes in
     let blocks = permitted ctx pass lane column other in
-    let some : 0 < length blocks =
-    some_permitted ctx sizes column st.in_columns pass lane other st.later (lane_alone ctx pass lane column w) in
+    let some : 0 < length blocks = some_permitted ctx sizes column st.in_columns pass lane other st.later may.alone in
     All-get_or (λ (x : ℕ × ℕ). Reads ctx pass lane column x.0 other x.1) blocks (reference_index (length blocks) w) (0, 0)
     (omega arith)
-    (permitted_sources ctx sizes lane column other below st.in_columns pass)
+    (permitted_sources ctx sizes lane column other may.within st.in_columns pass)
 
 -- a source is in a place for the step
 pub Reads-place : (ctx : Context) → Sizes ctx → (pass lane column r l c : ℕ)

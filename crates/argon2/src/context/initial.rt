@@ -69,7 +69,7 @@ impl Instance<'_> {
 
     /// Writes columns 0 and 1 of each lane for an output of `out_len` bytes, and no other block. Each lane
     /// has `width` blocks, the first of its columns.
-    #[tactic(auto, using(crate::proofs::context_lemmas::LanesFit::lane_fits))]
+    #[tactic(auto, using(crate::proofs::context_lemmas::InMemory::lane_fits))]
     pub(super) fn begin<B: MemoryBlock>(
         &self,
         pwd: &[u8],

@@ -13,7 +13,7 @@ use argon2_base::block::Block;
 impl Instance<'_> {
     /// Fills `out` with H' of the exclusive or of the last column's blocks. Each lane has `width` blocks,
     /// the last of its columns.
-    #[tactic(auto, using(crate::proofs::context_lemmas::LanesFit::lane_fits))]
+    #[tactic(auto, using(crate::proofs::context_lemmas::InMemory::lane_fits))]
     pub(super) fn write_tag<B: MemoryBlock>(&self, width: u32, blocks: &[B], out: &mut [u8])
         requires one { 1 ≤ width }
         requires most { width ≤ lane_length self.now }

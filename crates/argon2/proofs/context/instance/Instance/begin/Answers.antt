@@ -1,5 +1,5 @@
 use Rattle.argon2.proofs.Imports.{◌≡◌, ◌+◌, ◌*◌, ◌<◌, ℕ, length, map, ap, sym, common_steps, ◌∙◌, arith, slice_set, length-map, map-set, same_from_place, block_after, first_block}
-use Rattle.argon2.proofs.context_lemmas.LanesFit.{lane_within}
+use Rattle.argon2.proofs.context_lemmas.InMemory.{lane_within}
 use Rattle.argon2.proofs.context.instance.Instance.begin.Goals as goal
 
 pub loop-lane-preserved : goal.loop-lane-preserved
