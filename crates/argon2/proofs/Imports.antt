@@ -54,7 +54,7 @@ pub use Rattle.argon2.specs.declared.login.answers.LoginError.TheVariants.{Refus
 pub use Rattle.argon2.specs.declared.version.Version.{Version}
 pub use Rattle.argon2_base.proofs.block_lemmas.MixingLaws.{mixed-comm, xor_blocks-comm}
 pub use Rattle.argon2_base.proofs.phc_lemmas.Base64Lemmas.{length-strict_base64, short_bytes_again, short_bytes_refused}
-pub use Rattle.argon2_base.proofs.phc_lemmas.DecimalLemmas.{number_again, number_none}
+pub use Rattle.argon2_base.proofs.phc_lemmas.DecimalLemmas.{number_again}
 pub use Rattle.argon2_base.specs.Blake2b.{blocks, initial_state}
 unfoldable pub use Rattle.argon2_base.specs.Blake2b.{blake2b, compress, hash_blocks}
 pub use Rattle.argon2_base.specs.Block.{bytes_of}
@@ -66,7 +66,7 @@ pub use Rattle.argon2_base.specs.declared.error.password_hash.Error.{Error as Ha
 pub use Rattle.argon2_base.specs.LongHash.{long_hash}
 pub use Rattle.argon2_base.specs.PhcFields.{phc_of}
 pub use Rattle.argon2_base.specs.PhcText.{HasBytes, IsPhc, Pair, Phc, are_distinct, are_params, ident_text, is_param, item, params_text, phc_text, value_of}
-pub use Rattle.argon2_base.specs.Texts.{IsBytes, is_name, is_value, is_value_char, number_of, strict_base64, short_bytes}
+pub use Rattle.argon2_base.specs.Texts.{IsBytes, is_value, is_value_char, number_of, strict_base64, short_bytes}
 pub use Rattle.argon2_base.specs.declared.error.password_hash.Error.TheVariants.{OutOfMemory, Algorithm as NoAlgorithm}
 pub use Rattle.argon2_base.specs.declared.phc.hash.PasswordHash.{PasswordHash}
 pub use Rattle.rand_core.specs.Stream.{fill_bytes}

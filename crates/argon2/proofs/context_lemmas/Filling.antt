@@ -1,7 +1,7 @@
 -- Running one schedule for each pass and slice in order fills a list with the matrix.
-use Rattle.argon2.proofs.Imports.{◌≡◌, ℕ, zero, suc, ◌+◌, ◌-◌, ◌*◌, ◌/◌, ◌%◌, ◌<◌, ◌≤◌, ◌≢◌, List, [], ◌∷◌, refl, sym, ap, ◌∙◌, arith, slice_index_or, slice_set, div-eq_of_lt-le, mod-lt}
+use Rattle.argon2.proofs.Imports.{◌≡◌, ℕ, zero, suc, ◌+◌, ◌-◌, ◌*◌, ◌/◌, ◌%◌, ◌<◌, ◌≤◌, ◌≢◌, List, [], ◌∷◌, refl, sym, ap, ◌∙◌, arith, div-eq_of_lt-le, mod-lt}
 use Rattle.argon2.proofs.Imports.{length-set, get_or-set_same, fill_by_all, mul-add-lt, div_below, nat_tests, Context, FirstColumns, Reference, block_count, block_of, lane_length}
-use Rattle.argon2.proofs.Imports.{made_block, segment_length, Memory, Sizes, matrix, reference_places, IsStep, in_memory, step, reference_place, turns, turn_count, IsSchedule, run}
+use Rattle.argon2.proofs.Imports.{made_block, segment_length, Memory, Sizes, matrix, reference_places, IsStep, in_memory, step, reference_place, turns, IsSchedule, run}
 use Rattle.argon2.proofs.Imports.{run_slices, run_passes, columns_before, HasBlocksUpTo, Begins, AreSchedules, div-add-mod'}
 use Rattle.argon2.proofs.recurrence.PermittedPlaces.{InSlice}
 use Rattle.argon2.proofs.recurrence.Sources.{AgreeOn, made_cong, reference_of_cong}

@@ -1,8 +1,7 @@
 -- The last column of a memory that is the matrix, and the tag.
-use Rattle.argon2.proofs.Imports.{refl, ◌≡◌, ℕ, ◌+◌, ◌-◌, ◌*◌, ◌/◌, ◌%◌, ◌<◌, List, [], map, take, fold, sym, ap, ◌∙◌, arith, slice_index_or, range_with_len, take-map}
-use Rattle.argon2.proofs.Imports.{get_or-map-range_with_len, length-map-range_with_len, fill_by_all, div-mul-add, mod-mul-add, mul-add-lt, long_hash, Context, FirstColumns, block_count}
-use Rattle.argon2.proofs.Imports.{block_of, first_block, lane_length, last_block, tag_of, xor_lanes, Memory, Sizes, matrix, matrix_of, bytes_of, xor_blocks, zero_block, blocks_of}
-use Rattle.argon2.proofs.Imports.{last_column}
+use Rattle.argon2.proofs.Imports.{refl, ◌≡◌, ℕ, ◌+◌, ◌-◌, ◌*◌, ◌<◌, List, [], map, take, fold, sym, ap, ◌∙◌, arith, slice_index_or, range_with_len, take-map, get_or-map-range_with_len}
+use Rattle.argon2.proofs.Imports.{length-map-range_with_len, fill_by_all, div-mul-add, mod-mul-add, mul-add-lt, long_hash, Context, FirstColumns, block_count, block_of, first_block}
+use Rattle.argon2.proofs.Imports.{lane_length, last_block, tag_of, xor_lanes, Memory, Sizes, matrix, matrix_of, bytes_of, xor_blocks, zero_block, blocks_of, last_column}
 
 -- the matrix has the last pass's blocks at their places
 matrix_at : (ctx : Context) → Sizes ctx → (first : FirstColumns) (lane column : ℕ)

@@ -1,7 +1,7 @@
 -- A lane sees what its own turns in a slice alone make, so all schedules of a slice give the same blocks.
-use Rattle.argon2.proofs.Imports.{◌≡◌, ℕ, zero, suc, ◌+◌, ◌-◌, ◌*◌, ◌/◌, ◌%◌, ◌<◌, ◌≤◌, ◌≢◌, ◌⊎◌, inl, inr, ◌&&◌, List, [], ◌∷◌, ◌++◌, length, refl, sym, ap, ◌∙◌, subst, arith}
+use Rattle.argon2.proofs.Imports.{◌≡◌, ℕ, zero, suc, ◌+◌, ◌-◌, ◌*◌, ◌/◌, ◌%◌, ◌<◌, ◌≤◌, ◌≢◌, ◌⊎◌, inl, inr, List, [], ◌∷◌, ◌++◌, length, refl, sym, ◌∙◌, subst, arith}
 use Rattle.argon2.proofs.Imports.{slice_index_or, slice_set, ◌==◌, if◌then◌else◌, mul-le-mul_right, div-eq_of_lt-le, mod-lt, AllByRecursion, ext_get_or, get_or-set_other, get_or-set_same}
-use Rattle.argon2.proofs.Imports.{length-set, sum_by-cons, sum_by-append, div_below, same_from_place, cond_both, cases_eq, nat_tests, Context, block_count, lane_length, segment_length}
+use Rattle.argon2.proofs.Imports.{length-set, sum_by-cons, sum_by-append, div_below, same_from_place, cases_eq, nat_tests, Context, block_count, lane_length, segment_length}
 use Rattle.argon2.proofs.Imports.{Memory, Sizes, IsStep, in_memory, step, turns, turn_count, IsSchedule, run, div-add-mod'}
 use Rattle.argon2.proofs.context_lemmas.InMemory.{place_below}
 use Rattle.argon2.proofs.recurrence.PermittedPlaces.{InSlice}

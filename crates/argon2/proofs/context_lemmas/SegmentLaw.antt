@@ -115,8 +115,8 @@ slices_begun ctx first old memory is = filled_at_first ctx is.sizes first (in_la
       let s = segment_length ctx in
       let two = is.sizes.two_columns in
       let within = mul-add-lt lane s column ctx.p_cost l (omega arith) in
-      grind (arith, in_lanes_at ctx memory 0 lane column, get_or-take (slice_length ctx) memory (lane * s + column),
-      is.columns lane column);
+      let taken = get_or-take (slice_length ctx) memory (lane * s + column) [] in
+      grind (arith, in_lanes_at ctx memory 0 lane column, is.columns lane column);
 })
 
 module _ (ctx : Context) (first : FirstColumns) (memory : ℕ → ℕ → Memory) (is : IsFilledBySegments ctx first memory) where
@@ -162,5 +162,6 @@ segments_give_tag ctx password salt n memory is =
     (omega arith) (passes_filled ctx first memory is last (omega arith))) in
     ap (λ block. long_hash n (bytes_of block)) (xor_lanes_cong ctx _ _ (λ lane l.
     let column : 3 * s + (s - 1) ≡ lane_length ctx - 1 = omega arith in
-    grind (arith, get_or-drop (3 * slice_length ctx) end (lane * s + (s - 1)), in_lanes_at ctx end 3 lane (s - 1),
-    filled.old last lane (3 * s + (s - 1)))))
+    let dropped = get_or-drop (3 * slice_length ctx) end (lane * s + (s - 1)) [] in
+    let made = filled.old last lane (3 * s + (s - 1)) in
+    grind (arith, in_lanes_at ctx end 3 lane (s - 1))))

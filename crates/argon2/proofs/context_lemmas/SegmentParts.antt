@@ -1,5 +1,5 @@
 -- A step on the parts of a memory is that step on the memory.
-use Rattle.argon2.proofs.Imports.{◌≡◌, ℕ, suc, ◌+◌, ◌*◌, ◌<◌, ◌≢◌, List, length, arith, slice_set, ◌==◌, if◌then◌else◌, mul-add-lt}
+use Rattle.argon2.proofs.Imports.{◌≡◌, ℕ, ◌+◌, ◌*◌, ◌<◌, ◌≢◌, List, length, arith, slice_set, ◌==◌, if◌then◌else◌, mul-add-lt}
 use Rattle.argon2.proofs.Imports.{nat_tests, get_or-set_other, get_or-set_same, Context, FirstColumns, block_count, lane_length, made_block, segment_length, Memory, Sizes, AreParts}
 use Rattle.argon2.proofs.Imports.{column_of, IsStepAt, IsStep, in_memory, step, HasBlocksUpTo, columns_before, Step}
 use Rattle.argon2.proofs.recurrence.PermittedPlaces.{InSlice}

@@ -1,5 +1,5 @@
 -- Stores: one name set, names added, and the tree that a store stands for.
-use Rattle.argon2.proofs.Imports.{◌≡◌, ℕ, List, [], ◌∷◌, Option, Some, None, Bool, true, false, if◌then◌else◌, string_bytes, refl, sym, ap, ◌∙◌, arith, and_parts, is_eq-slice_cmp}
+use Rattle.argon2.proofs.Imports.{◌≡◌, ℕ, List, [], ◌∷◌, Option, Some, None, true, false, if◌then◌else◌, string_bytes, refl, sym, ap, ◌∙◌, arith, and_parts, is_eq-slice_cmp}
 use Rattle.argon2.proofs.Imports.{bytes_eq-Decides, String, IsSome, slice_cmp, nat_list_cmp_total, nat_list_eq_equiv, empty, get, insert, entries, entries-from_sorted, find, from_sorted}
 use Rattle.argon2.proofs.Imports.{get-from_sorted, is_sorted, get-empty, get-from_entries, get-insert, same_map, slice_cmp-IsAntisymmetric, nat_cmp-IsAntisymmetric, AllByRecursion, is_some}
 use Rattle.argon2.proofs.Imports.{option_map, option_or, is_lt, nat_cmp, phc_of, Phc, PasswordHash, Store, KeepsOthers, with_texts, named_values, values_of}

@@ -1,7 +1,6 @@
 -- Reading the items of a parameter list one after another.
-use Rattle.argon2.proofs.Imports.{◌≡◌, ℕ, true, List, [], ◌∷◌, codes, Option, Some, None, Result, Ok, Err, refl, arith, option_or, option_and_then, number_of, bytes_eq-Decides, IsErr}
-use Rattle.argon2.proofs.Imports.{IsErrAnd, Fault, fault_of, outcome_of, Pair, are_distinct, are_params, value_of, Items, item_fault, item_taken, items_fault, items_of, items_over}
-use Rattle.argon2.proofs.Imports.{items_read, HashError, short_bytes}
+use Rattle.argon2.proofs.Imports.{◌≡◌, ℕ, true, List, [], ◌∷◌, Option, Some, None, Result, Ok, Err, refl, arith, option_or, option_and_then, bytes_eq-Decides, IsErr, IsErrAnd, Fault}
+use Rattle.argon2.proofs.Imports.{fault_of, outcome_of, Pair, are_distinct, are_params, value_of, Items, item_fault, item_taken, items_fault, items_of, items_over, items_read, HashError}
 
 -- What was read, if `rest` is left.
 pub record Reading (list rest : List Pair) (found : Items) : Type 0 where

@@ -1,5 +1,5 @@
 -- How long a tag is that fits into a text, and that it is of bytes.
-use Rattle.argon2.proofs.Imports.{common_steps, ◌-◌, ◌≡◌, ℕ, zero, suc, ◌+◌, ◌*◌, ◌≤◌, List, [], ◌∷◌, ◌++◌, length, take, refl, arith, length-take, flat_map, IsBytes, blake2b, blocks}
+use Rattle.argon2.proofs.Imports.{common_steps, ◌-◌, ◌≡◌, ℕ, zero, suc, ◌+◌, ◌*◌, ◌≤◌, List, [], ◌∷◌, ◌++◌, length, refl, arith, length-take, flat_map, IsBytes, blake2b, blocks}
 use Rattle.argon2.proofs.Imports.{compress, hash_blocks, initial_state, bytes_of, Context, first_block, last_block, tag_of, length-append, w32}
 use Rattle.std.specs.Int.{w64, to_le_bytes, bytes_low_first}
 use Rattle.argon2_base.proofs.blake2b_lemmas.Pieces.{long_hash_short}

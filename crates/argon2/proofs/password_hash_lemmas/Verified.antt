@@ -1,7 +1,6 @@
 -- Verifying answers Ok exactly if the value accepts.
 use Rattle.argon2.proofs.Imports.{◌≡◌, ℕ, true, List, length, Result, Ok, Err, inl, inr, ◌⊎◌, refl, arith, nat_tests, le-leb, bytes_eq-Decides, MatchResult, OutOfMemory, Phc, AcceptsBy}
-use Rattle.argon2.proofs.Imports.{IsVerifyAnswer, is_tag, verify_outcome, stored_of, tag_of, context_with, Option, option_map, Fault, Pair, Parameters, Settings, params_of, result_and_then}
-use Rattle.argon2.proofs.Imports.{shown_settings, HashError}
+use Rattle.argon2.proofs.Imports.{IsVerifyAnswer, is_tag, verify_outcome, stored_of, tag_of, context_with, Fault, result_and_then, HashError}
 
 -- what is read is read of something
 read_ok : {X Y : Type 0} (r : Result X Fault) (next : X → Result Y Fault) (y : Y) → Ok y ≡ result_and_then r next

@@ -1,7 +1,7 @@
 -- What may be referred to, as numbers: how many blocks, and in which columns.
-use Rattle.argon2.proofs.Imports.{◌≡◌, ℕ, zero, suc, ◌+◌, ◌-◌, ◌*◌, ◌/◌, ◌%◌, ◌<◌, ◌≤◌, List, [], ◌++◌, length, refl, ap, ◌∙◌, arith, slice_index_or, nat_lt, ◌==◌, if◌then◌else◌}
+use Rattle.argon2.proofs.Imports.{◌≡◌, ℕ, zero, suc, ◌+◌, ◌-◌, ◌*◌, ◌/◌, ◌%◌, ◌<◌, ◌≤◌, [], length, refl, ap, ◌∙◌, arith, slice_index_or, nat_lt, ◌==◌, if◌then◌else◌}
 use Rattle.argon2.proofs.Imports.{mul-le-mul_right, div-lt_iff_lt-mul, div-mul-le_self, lt-mul-div-succ, range_with_len, length-map, length-take, get_or_append_left, get_or-append_right}
-use Rattle.argon2.proofs.Imports.{get_or-take, get_or-map-range_with_len, length-range_with_len, nat_tests, cases_lt, Context, columns, finished_segments, lane_length, permitted}
+use Rattle.argon2.proofs.Imports.{get_or-take, get_or-map-range_with_len, length-range_with_len, nat_tests, Context, columns, finished_segments, lane_length, permitted}
 use Rattle.argon2.proofs.Imports.{segment_length, Sizes, div-add-mod', length-append}
 
 -- a column c of a slice, for segments of s columns

@@ -1,4 +1,4 @@
-use Rattle.argon2.proofs.Imports.{arith, refl, number_again, number_none}
+use Rattle.argon2.proofs.Imports.{arith, refl, number_again}
 use Rattle.argon2.proofs.params.text.take_number.Goals as goal
 
 pub returns : goal.returns

@@ -1,5 +1,5 @@
-use Rattle.argon2.proofs.Imports.{◌≡◌, ◌+◌, ◌*◌, map, sym, ap, ◌∙◌, arith, rules, map-set, xor_blocks, place_of, lane_length, reference, column_of, step}
-use Rattle.argon2.proofs.context_lemmas.InMemory.{first_word_read, made_by_places, place_by_word, words_read}
+use Rattle.argon2.proofs.Imports.{◌≡◌, ◌+◌, ◌*◌, map, ap, ◌∙◌, arith, rules, map-set, xor_blocks, place_of, lane_length, reference, column_of, step}
+use Rattle.argon2.proofs.context_lemmas.InMemory.{first_word_read, made_by_places, words_read}
 use Rattle.argon2.proofs.context.instance.Instance.step.Goals as goal
 
 pub returns-clause-step : goal.returns-clause-step

@@ -1,5 +1,5 @@
-use Rattle.argon2.proofs.Imports.{◌≡◌, Ok, length, ap, rules, ◌∙◌, option_map, IfSome, phc_of, HasBytes, settings_value, shown_settings, ℕ, List, Option, Result, Err, refl, arith, Fault}
-use Rattle.argon2.proofs.Imports.{Pair, Phc, Parameters, Settings, params_of, result_and_then}
+use Rattle.argon2.proofs.Imports.{◌≡◌, Ok, length, ap, rules, ◌∙◌, option_map, IfSome, phc_of, HasBytes, settings_value, shown_settings, ℕ, List, Option, arith}
+use Rattle.argon2.proofs.Imports.{Pair, Phc, Parameters, Settings, params_of}
 use Rattle.argon2.proofs.password_hash.stored.Stored.with_settings.Goals as goal
 
 -- parameters that are read have the length that is given
