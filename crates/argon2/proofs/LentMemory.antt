@@ -45,10 +45,8 @@ words_behind words front old count =
 -- lanes with all their columns are a memory that begins
 pub lanes_begin : (ctx : Context) (width : ℕ) → width ≡ lane_length ctx → (first : FirstColumns) (old new : Memory)
     → length old ≡ block_count ctx → BeginsLanes ctx width first old new → Begins ctx first new
-lanes_begin ctx width wide first old new size begun = record {
-  size = begun.size ∙ size;
-  columns = rw wide at begun.columns;
-}
+lanes_begin ctx width wide first old new size begun =
+    record { size = begun.size ∙ size; columns = rw wide at begun.columns }
 
 -- a fill that begins in the first blocks begins in the memory
 pub is_begun : (argon2 : Argon2) (count width : ℕ) → count ≡ block_count (context_of argon2)

@@ -64,93 +64,78 @@ module _ (ctx : Context) (sizes : Sizes ctx) (first : FirstColumns) (pass lane c
 abbrev done_before : Context → ℕ → List ℕ → ℕ → ℕ
 done_before ctx slice schedule l = (slice + 1) * segment_length ctx - turns l schedule
 
--- what is left of a schedule finishes the slice
-run_fills : (ctx : Context) → Sizes ctx → (first : FirstColumns) (pass slice : ℕ) → slice < 4
-    → (schedule : List ℕ) (memory : List (List ℕ)) → MayRun ctx pass slice schedule
-    → HasBlocksUpTo ctx first pass (done_before ctx slice schedule) memory
-    → HasBlocksUpTo ctx first pass (done_before ctx slice []) (run ctx pass slice schedule memory)
-unfolding run
-run_fills ctx sizes first pass slice four [] memory m h = h
-run_fills ctx sizes first pass slice four (lane ∷ schedule) memory m h =
-    let st = head_step ctx sizes pass slice lane schedule four m in
-    let same = turns-same lane schedule in
-    let room = m.few lane m.lanes.0 in
-    let most = turn_count-le ctx pass slice in
-    run_fills ctx sizes first pass slice four schedule _ (MayRun-tail ctx pass slice lane schedule m)
-    (step_fills ctx sizes first pass lane _ slice (done_before ctx slice (lane ∷ schedule)) memory st.0 st.1 (omega arith)
-    (λ l below. let few = m.few l below in (omega arith, omega arith)) h (done_before ctx slice schedule) (omega arith)
-    (λ l ne. let other = turns-other l lane schedule (λ e. ne (sym e)) in omega arith))
-
--- ---- slices and passes
-
--- the first slices of a pass fill it up to there, each by its schedule
-slices_fill : (ctx : Context) → Sizes ctx
-    → (first : FirstColumns) (schedules : ℕ → List ℕ) (pass slice : ℕ) → slice ≤ 4
-    → ((j : ℕ) → j < 4 → IsSchedule ctx pass j (schedules j)) → (memory : List (List ℕ))
-    → HasBlocksUpTo ctx first pass (λ _. columns_before ctx pass 0) memory
-    → HasBlocksUpTo ctx first pass (λ _. columns_before ctx pass slice) (run_slices ctx schedules pass slice memory)
-unfolding run_slices
-slices_fill ctx sizes first schedules pass zero four is memory h = h
-slices_fill ctx sizes first schedules pass (suc slice) four is memory h =
-    let before = run_slices ctx schedules pass slice memory in
-    let i = slices_fill ctx sizes first schedules pass slice (omega arith) is memory h in
-    let schedule = schedules slice in
-    let it = is slice (omega arith) in
-    let start = HasBlocksUpTo-like ctx first pass (λ _. columns_before ctx pass slice) (done_before ctx slice schedule) before
-    (λ l below. ap (λ n. (slice + 1) * segment_length ctx - n) (sym (it.turns l below))) i in
-    HasBlocksUpTo-like ctx first pass (done_before ctx slice []) (λ _. columns_before ctx pass (suc slice))
-    (run ctx pass slice schedule before)
-    (λ l below. grind (arith, nat_tests))
-    (run_fills ctx sizes first pass slice (omega arith) schedule before (MayRun-from ctx pass slice schedule it) start)
-
 -- the end of a pass is the start of the next
-pub next_pass : (ctx : Context) (first : FirstColumns) (pass : ℕ) (memory : List (List ℕ))
+pub next_pass : (ctx : Context) (first : FirstColumns) (pass : ℕ) (memory : Memory)
     → HasBlocksUpTo ctx first pass (λ _. columns_before ctx pass 4) memory
     → HasBlocksUpTo ctx first (suc pass) (λ _. columns_before ctx (suc pass) 0) memory
 next_pass ctx first pass memory h = grind (arith, nat_tests)
 
--- the first passes fill the memory, each slice by its schedule
-passes_fill : (ctx : Context) → Sizes ctx
-    → (first : FirstColumns) (schedules : ℕ → ℕ → List ℕ) (passes : ℕ)
-    → ((r slice : ℕ) → r < passes → slice < 4 → IsSchedule ctx r slice (schedules r slice))
-    → (memory : List (List ℕ))
-    → HasBlocksUpTo ctx first 0 (λ _. columns_before ctx 0 0) memory
-    → HasBlocksUpTo ctx first passes (λ _. columns_before ctx passes 0) (run_passes ctx schedules passes memory)
-unfolding run_passes
-passes_fill ctx sizes first schedules zero is memory h = h
-passes_fill ctx sizes first schedules (suc r) is memory h =
-    let before = run_passes ctx schedules r memory in
-    next_pass ctx first r (run_slices ctx (schedules r) r 4 before)
-    (slices_fill ctx sizes first (schedules r) r 4 (omega arith) (λ slice lt. is r slice (omega arith) lt) before
-    (passes_fill ctx sizes first schedules r (λ a slice x y. is a slice (omega arith) y) memory h))
+module _ (ctx : Context) (sizes : Sizes ctx) (first : FirstColumns) where
+  -- what is left of a schedule finishes the slice
+  run_fills : (pass slice : ℕ) → slice < 4 → (schedule : List ℕ) (memory : Memory) → MayRun ctx pass slice schedule
+      → HasBlocksUpTo ctx first pass (done_before ctx slice schedule) memory
+      → HasBlocksUpTo ctx first pass (done_before ctx slice []) (run ctx pass slice schedule memory)
+  unfolding run
+  run_fills pass slice four [] memory m h = h
+  run_fills pass slice four (lane ∷ schedule) memory m h =
+      let st = head_step ctx sizes pass slice lane schedule four m in
+      let same = turns-same lane schedule in
+      let room = m.few lane m.lanes.0 in
+      let most = turn_count-le ctx pass slice in
+      run_fills pass slice four schedule _ (MayRun-tail ctx pass slice lane schedule m)
+      (step_fills ctx sizes first pass lane _ slice (done_before ctx slice (lane ∷ schedule)) memory st.0 st.1 (omega arith)
+      (λ l below. let few = m.few l below in (omega arith, omega arith)) h (done_before ctx slice schedule) (omega arith)
+      (λ l ne. let other = turns-other l lane schedule (λ e. ne (sym e)) in omega arith))
 
--- a memory that begins with the first two columns is filled up to there
-pub filled_at_first : (ctx : Context) → Sizes ctx → (first : FirstColumns) (memory : List (List ℕ))
-    → Begins ctx first memory → HasBlocksUpTo ctx first 0 (λ _. columns_before ctx 0 0) memory
-filled_at_first ctx sizes first memory start =
-    let two = sizes.two_columns in
-    let columns = first_columns ctx sizes first in
-    grind (arith, nat_tests)
+  -- the first slices of a pass fill it up to there, each by its schedule
+  slices_fill : (schedules : ℕ → List ℕ) (pass slice : ℕ) → slice ≤ 4 → ((j : ℕ) → j < 4 → IsSchedule ctx pass j (schedules j))
+      → (memory : Memory) → HasBlocksUpTo ctx first pass (λ _. columns_before ctx pass 0) memory
+      → HasBlocksUpTo ctx first pass (λ _. columns_before ctx pass slice) (run_slices ctx schedules pass slice memory)
+  unfolding run_slices
+  slices_fill schedules pass zero four is memory h = h
+  slices_fill schedules pass (suc slice) four is memory h =
+      let schedule = schedules slice in
+      let it = is slice (omega arith) in
+      let start = HasBlocksUpTo-like ctx first pass (λ _. columns_before ctx pass slice) (done_before ctx slice schedule) _
+      (λ l below. let turns = it.turns l below in omega arith) (slices_fill schedules pass slice (omega arith) is memory h) in
+      HasBlocksUpTo-like ctx first pass (done_before ctx slice []) (λ _. columns_before ctx pass (suc slice)) _
+      (λ l below. grind (arith, nat_tests))
+      (run_fills pass slice (omega arith) schedule _ (MayRun-from ctx pass slice schedule it) start)
 
--- after the last pass the memory is the matrix
-pub filled_at_last : (ctx : Context) → Sizes ctx
-    → (first : FirstColumns) (passes : ℕ) (memory : List (List ℕ)) → passes ≡ ctx.t_cost
-    → HasBlocksUpTo ctx first passes (λ _. columns_before ctx passes 0) memory → memory ≡ matrix ctx first
-unfolding matrix
-filled_at_last ctx sizes first zero memory t h = absurd (let some = sizes.some_pass in omega arith)
-filled_at_last ctx sizes first (suc r) memory t h =
-    let q = lane_length ctx in
-    let two = sizes.two_columns in
-    let p : r ≡ ctx.t_cost - 1 = omega arith in
-    fill_by_all (λ place. block_of ctx first (ctx.t_cost - 1) (place / q) (place % q)) memory (block_count ctx) [] h.size (λ n lt.
-    let lane : n / q < ctx.p_cost = div_below n q ctx.p_cost (omega arith) lt in
-    let column : n % q < q = mod-lt n (omega arith) in
-    grind (arith, div-add-mod' n q, h.old r (n / q) (n % q), nat_tests))
+  -- the first passes fill the memory, each slice by its schedule
+  passes_fill : (schedules : ℕ → ℕ → List ℕ) (passes : ℕ)
+      → ((r slice : ℕ) → r < passes → slice < 4 → IsSchedule ctx r slice (schedules r slice)) → (memory : Memory)
+      → HasBlocksUpTo ctx first 0 (λ _. columns_before ctx 0 0) memory
+      → HasBlocksUpTo ctx first passes (λ _. columns_before ctx passes 0) (run_passes ctx schedules passes memory)
+  unfolding run_passes
+  passes_fill schedules zero is memory h = h
+  passes_fill schedules (suc r) is memory h = next_pass ctx first r _
+      (slices_fill (schedules r) r 4 (omega arith) (λ slice lt. is r slice (omega arith) lt) _
+      (passes_fill schedules r (λ a slice x y. is a slice (omega arith) y) memory h))
 
--- any schedules lead from the first two columns to the matrix
-pub schedules_fill : (ctx : Context) → Sizes ctx → (first : FirstColumns) (schedules : ℕ → ℕ → List ℕ) → AreSchedules ctx schedules
-    → (memory : List (List ℕ)) → Begins ctx first memory
-    → run_passes ctx schedules ctx.t_cost memory ≡ matrix ctx first
-schedules_fill ctx sizes first schedules is memory start =
-    filled_at_last ctx sizes first ctx.t_cost _ refl
-    (passes_fill ctx sizes first schedules ctx.t_cost is memory (filled_at_first ctx sizes first memory start))
+  -- a memory that begins with the first two columns is filled up to there
+  pub filled_at_first : (memory : Memory) → Begins ctx first memory → HasBlocksUpTo ctx first 0 (λ _. columns_before ctx 0 0) memory
+  filled_at_first memory start =
+      let two = sizes.two_columns in
+      let columns = first_columns ctx sizes first in
+      grind (arith, nat_tests)
+
+  -- after the last pass the memory is the matrix
+  pub filled_at_last : (passes : ℕ) (memory : Memory) → passes ≡ ctx.t_cost
+      → HasBlocksUpTo ctx first passes (λ _. columns_before ctx passes 0) memory → memory ≡ matrix ctx first
+  unfolding matrix
+  filled_at_last zero memory t h = absurd (let some = sizes.some_pass in omega arith)
+  filled_at_last (suc r) memory t h =
+      let q = lane_length ctx in
+      let two = sizes.two_columns in
+      let p : r ≡ ctx.t_cost - 1 = omega arith in
+      fill_by_all (λ place. block_of ctx first (ctx.t_cost - 1) (place / q) (place % q)) memory (block_count ctx) [] h.size (λ n lt.
+      let lane : n / q < ctx.p_cost = div_below n q ctx.p_cost (omega arith) lt in
+      let column : n % q < q = mod-lt n (omega arith) in
+      grind (arith, div-add-mod' n q, h.old r (n / q) (n % q), nat_tests))
+
+  -- any schedules lead from the first two columns to the matrix
+  pub schedules_fill : (schedules : ℕ → ℕ → List ℕ) → AreSchedules ctx schedules → (memory : Memory) → Begins ctx first memory
+      → run_passes ctx schedules ctx.t_cost memory ≡ matrix ctx first
+  schedules_fill schedules is memory start =
+      filled_at_last ctx.t_cost _ refl (passes_fill schedules ctx.t_cost is memory (filled_at_first memory start))

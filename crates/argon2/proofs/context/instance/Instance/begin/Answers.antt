@@ -1,6 +1,13 @@
-use Rattle.argon2.proofs.Imports.{◌≡◌, ◌+◌, ◌*◌, ◌<◌, ℕ, length, map, ap, sym, common_steps, ◌∙◌, arith, slice_set, length-map, map-set, same_from_place, block_after, first_block}
+use Rattle.argon2.proofs.Imports.{◌≡◌, ◌+◌, ◌*◌, ◌<◌, ℕ, length, map, ap, sym, common_steps, rules, ◌∙◌, arith, slice_set, length-map, map-set, same_from_place, block_after, first_block}
 use Rattle.argon2.proofs.context_lemmas.InMemory.{lane_within}
 use Rattle.argon2.proofs.context.instance.Instance.begin.Goals as goal
+
+pub offset_bounds-blocks-first-in-loop-lane : goal.offset_bounds-blocks-first-in-loop-lane
+offset_bounds-blocks-first-in-loop-lane g c =
+    let n = c.loop-lane.lane in
+    let end = lane_within n c.args.width c.args.self.now.p_cost (omega arith) in
+    let room : n * c.args.width + 1 < length c.loop-lane.blocks = omega arith in
+    search rules
 
 pub loop-lane-preserved : goal.loop-lane-preserved
 loop-lane-preserved g c =
