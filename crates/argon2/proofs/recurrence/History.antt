@@ -8,19 +8,6 @@ use Rattle.argon2.proofs.recurrence.Sources.{AgreeOn, made_cong}
 abbrev pub moment : Context → ℕ → ℕ → ℕ
 moment ctx pass column = pass * lane_length ctx + column
 
--- a rule reads earlier moments alone
-rule_cong : (ctx : Context) → Sizes ctx → (first : FirstColumns) (pass lane column : ℕ)
-    → lane < ctx.p_cost → column < lane_length ctx → (f g : Blocks)
-    → ((r l c : ℕ) → l < ctx.p_cost → c < lane_length ctx → moment ctx r c < moment ctx pass column → f r l c ≡ g r l c)
-    → rule ctx first f pass lane column ≡ rule ctx first g pass lane column
-unfolding rule
-rule_cong ctx sizes first pass lane column in_lanes in_columns f g h =
-    let agree : AgreeOn ctx pass lane column f g = λ r l c reads. h r l c reads.in_lanes reads.in_columns
-    (let below = reads.in_columns in let newest = reads.newest in grind arith) in
-    let made = λ (later : pass ≡ 0 → 2 ≤ column). made_cong ctx sizes pass lane column
-    (record { in_lanes = in_lanes; in_columns = in_columns; later = later }) f g agree in
-    grind (arith, nat_tests)
-
 -- a history of n columns has length n
 length-history : (ctx : Context) (first : FirstColumns) (n : ℕ) → length (history ctx first n) ≡ n
 unfolding history
@@ -46,49 +33,53 @@ unfolding in_history block_of
 in_history_is ctx first n r l c h =
     ap (λ (column : List (List ℕ)). slice_index_or column l []) (history_stays ctx first n (moment ctx r c) h)
 
--- each block is as the rule says
-pub recurrence : (ctx : Context) → Sizes ctx → (first : FirstColumns) (pass lane column : ℕ)
-    → lane < ctx.p_cost → column < lane_length ctx
-    → block_of ctx first pass lane column ≡ rule ctx first (block_of ctx first) pass lane column
-unfolding block_of in_history history
-recurrence ctx sizes first pass lane column in_lanes in_columns =
-    let q = lane_length ctx in
-    let n = moment ctx pass column in
-    let before = in_history ctx (history ctx first n) in
-    let made = λ (l : ℕ). rule ctx first before (n / q) l (n % q) in
-    ap (λ (column : List (List ℕ)). slice_index_or column lane [])
-    (get_or_push (history ctx first n) (map made (range_with_len 0 ctx.p_cost)) [] n (length-history ctx first n))
-    ∙ get_or-map-range_with_len made 0 ctx.p_cost lane lane [] in_lanes (omega arith)
-    ∙ rw (div-mul-add pass q column in_columns, mod-mul-add pass q column in_columns)
-    (rule_cong ctx sizes first pass lane column in_lanes in_columns before (block_of ctx first)
-    (λ r l c _ _ lt. in_history_is ctx first n r l c lt))
+module _ (ctx : Context) (sizes : Sizes ctx) (first : FirstColumns) where
+  -- a rule reads earlier moments alone
+  rule_cong : (pass lane column : ℕ) → lane < ctx.p_cost → column < lane_length ctx → (f g : Blocks)
+      → ((r l c : ℕ) → l < ctx.p_cost → c < lane_length ctx → moment ctx r c < moment ctx pass column → f r l c ≡ g r l c)
+      → rule ctx first f pass lane column ≡ rule ctx first g pass lane column
+  unfolding rule
+  rule_cong pass lane column in_lanes in_columns f g h =
+      let agree : AgreeOn ctx pass lane column f g = λ r l c reads. h r l c reads.in_lanes reads.in_columns
+      (let below = reads.in_columns in let newest = reads.newest in grind arith) in
+      let made = λ (later : pass ≡ 0 → 2 ≤ column). made_cong ctx sizes pass lane column
+      (record { in_lanes = in_lanes; in_columns = in_columns; later = later }) f g agree in
+      grind (arith, nat_tests)
 
--- two recurrences agree up to any moment
-pub recurrence_unique_up_to : (ctx : Context) → Sizes ctx → (first : FirstColumns) (f g : Blocks)
-    → IsRecurrence ctx first f → IsRecurrence ctx first g → (n pass lane column : ℕ)
-    → lane < ctx.p_cost → column < lane_length ctx → moment ctx pass column < n
-    → f pass lane column ≡ g pass lane column
-recurrence_unique_up_to ctx sizes first f g hf hg zero pass lane column a b lt = absurd (omega arith)
-recurrence_unique_up_to ctx sizes first f g hf hg (suc n) pass lane column a b lt =
-    hf pass lane column a b
-    ∙ rule_cong ctx sizes first pass lane column a b f g
-    (λ r l c u v earlier. recurrence_unique_up_to ctx sizes first f g hf hg n r l c u v (omega arith))
-    ∙ sym (hg pass lane column a b)
+  -- each block is as the rule says
+  pub recurrence : (pass lane column : ℕ) → lane < ctx.p_cost → column < lane_length ctx
+      → block_of ctx first pass lane column ≡ rule ctx first (block_of ctx first) pass lane column
+  unfolding block_of in_history history
+  recurrence pass lane column in_lanes in_columns =
+      let q = lane_length ctx in
+      let n = moment ctx pass column in
+      let before = in_history ctx (history ctx first n) in
+      let made = λ (l : ℕ). rule ctx first before (n / q) l (n % q) in
+      ap (λ (column : List (List ℕ)). slice_index_or column lane [])
+      (get_or_push (history ctx first n) (map made (range_with_len 0 ctx.p_cost)) [] n (length-history ctx first n))
+      ∙ get_or-map-range_with_len made 0 ctx.p_cost lane lane [] in_lanes (omega arith)
+      ∙ rw (div-mul-add pass q column in_columns, mod-mul-add pass q column in_columns)
+      (rule_cong pass lane column in_lanes in_columns before (block_of ctx first)
+      (λ r l c _ _ lt. in_history_is ctx first n r l c lt))
 
--- ---- the rule's two cases
+  -- two recurrences agree up to any moment
+  pub recurrence_unique_up_to : (f g : Blocks) → IsRecurrence ctx first f → IsRecurrence ctx first g → (n pass lane column : ℕ)
+      → lane < ctx.p_cost → column < lane_length ctx → moment ctx pass column < n → f pass lane column ≡ g pass lane column
+  recurrence_unique_up_to f g hf hg zero pass lane column a b lt = absurd (omega arith)
+  recurrence_unique_up_to f g hf hg (suc n) pass lane column a b lt =
+      hf pass lane column a b
+      ∙ rule_cong pass lane column a b f g (λ r l c u v earlier. recurrence_unique_up_to f g hf hg n r l c u v (omega arith))
+      ∙ sym (hg pass lane column a b)
 
--- the blocks of columns 0 and 1 of pass 0 are the first columns
-pub first_columns : (ctx : Context) → Sizes ctx → (first : FirstColumns) (lane column : ℕ)
-    → lane < ctx.p_cost → column < 2 → block_of ctx first 0 lane column ≡ first lane column
-unfolding rule
-first_columns ctx sizes first lane column a b =
-    let two = sizes.two_columns in
-    recurrence ctx sizes first 0 lane column a (omega arith) ∙ grind (arith, nat_tests)
+  -- the blocks of columns 0 and 1 of pass 0 are the first columns
+  pub first_columns : (lane column : ℕ) → lane < ctx.p_cost → column < 2 → block_of ctx first 0 lane column ≡ first lane column
+  unfolding rule
+  first_columns lane column a b =
+      let two = sizes.two_columns in recurrence 0 lane column a (omega arith) ∙ grind (arith, nat_tests)
 
--- all other blocks are made of others
-pub made_blocks : (ctx : Context) → Sizes ctx → (first : FirstColumns) (pass lane column : ℕ)
-    → IsStep ctx pass lane column
-    → block_of ctx first pass lane column ≡ made_block ctx (block_of ctx first) pass lane column
-unfolding rule
-made_blocks ctx sizes first pass lane column st =
-    let later = st.later in recurrence ctx sizes first pass lane column st.in_lanes st.in_columns ∙ grind (arith, nat_tests)
+  -- all other blocks are made of others
+  pub made_blocks : (pass lane column : ℕ) → IsStep ctx pass lane column
+      → block_of ctx first pass lane column ≡ made_block ctx (block_of ctx first) pass lane column
+  unfolding rule
+  made_blocks pass lane column st =
+      let later = st.later in recurrence pass lane column st.in_lanes st.in_columns ∙ grind (arith, nat_tests)

@@ -96,23 +96,21 @@ previous_cong ctx sizes pass lane zero st f g h =
     let two = sizes.two_columns in h (pass - 1) lane (lane_length ctx - 1) (grind arith)
 previous_cong ctx sizes pass lane (suc column) st f g h = h pass lane column (grind arith)
 
--- such blocks have one reference
-pub reference_of_cong : (ctx : Context) → Sizes ctx → (pass lane column : ℕ)
-    → IsStep ctx pass lane column → (f g : Blocks) → AgreeOn ctx pass lane column f g
-    → reference_of ctx f pass lane column ≡ reference_of ctx g pass lane column
-unfolding reference_of reference_word
-reference_of_cong ctx sizes pass lane column st f g h = rw (previous_cong ctx sizes pass lane column st f g h) refl
+module _ (ctx : Context) (sizes : Sizes ctx) (pass lane column : ℕ) (st : IsStep ctx pass lane column) (f g : Blocks)
+    (h : AgreeOn ctx pass lane column f g) where
+  -- such blocks have one reference
+  pub reference_of_cong : reference_of ctx f pass lane column ≡ reference_of ctx g pass lane column
+  unfolding reference_of reference_word
+  reference_of_cong = rw (previous_cong ctx sizes pass lane column st f g h) refl
 
--- such blocks make one block
-pub made_cong : (ctx : Context) → Sizes ctx → (pass lane column : ℕ) → IsStep ctx pass lane column
-    → (f g : Blocks) → AgreeOn ctx pass lane column f g
-    → made_block ctx f pass lane column ≡ made_block ctx g pass lane column
-unfolding made_block reference_of
-made_cong ctx sizes pass lane column st f g h =
-    let from = reference_of ctx f pass lane column in
-    let same = reference_of_cong ctx sizes pass lane column st f g h in
-    let previous = previous_cong ctx sizes pass lane column st f g h in
-    let read = h from.pass from.lane from.column
-    (reference_reads ctx sizes pass lane column (reference_word ctx f pass lane column) st) in
-    let own : 0 < pass → f (pass - 1) lane column ≡ g (pass - 1) lane column = λ some. h (pass - 1) lane column (grind arith) in
-    grind (arith, nat_tests)
+  -- such blocks make one block
+  pub made_cong : made_block ctx f pass lane column ≡ made_block ctx g pass lane column
+  unfolding made_block reference_of
+  made_cong =
+      let from = reference_of ctx f pass lane column in
+      let same = reference_of_cong in
+      let previous = previous_cong ctx sizes pass lane column st f g h in
+      let read = h from.pass from.lane from.column
+      (reference_reads ctx sizes pass lane column (reference_word ctx f pass lane column) st) in
+      let own : 0 < pass → f (pass - 1) lane column ≡ g (pass - 1) lane column = λ some. h (pass - 1) lane column (grind arith) in
+      grind (arith, nat_tests)
