@@ -55,11 +55,7 @@ lane_within lane width lanes below =
 
 -- lanes that have no more blocks than they have columns end where a number of 32 bits does
 pub lanes_fit : (ctx : Context) (width : ℕ) → width ≤ lane_length ctx → Sizes ctx → ctx.p_cost * width < 2 ^ 32
-lanes_fit ctx width most sizes =
-    let all : ctx.p_cost * width ≤ ctx.p_cost * lane_length ctx = mul-le-mul_left ctx.p_cost most in
-    let memory = sizes.in_memory in
-    let small = sizes.m_cost in
-    omega arith
+lanes_fit ctx width most sizes = omega (arith, mul-le-mul_left ctx.p_cost most, sizes.in_memory, sizes.m_cost)
 
 -- where a lane ends
 pub ruleset lane_fits = (lane_within, lanes_fit)

@@ -18,8 +18,7 @@ returns-then-slice-at c = λ memory parts.
 
 pub returns-then-slice-at-2 : goal.returns-then-slice-at-2
 returns-then-slice-at-2 c = λ memory parts.
-    let ctx = c.args.self.now in
-    let s = segment_length ctx in
+    let s = segment_length c.args.self.now in
     let k = c.slice_of-slice.result in
     let two = c.segment_length.ensures.sizes.two_columns in
     let slice = rw (← c.slice_of-slice.ensures) at (in_slice s c.args.column two c.requires.place.in_columns) in
@@ -28,8 +27,7 @@ returns-then-slice-at-2 c = λ memory parts.
 
 pub returns-else-slice-at-2 : goal.returns-else-slice-at-2
 returns-else-slice-at-2 c = λ memory parts.
-    let ctx = c.args.self.now in
-    let s = segment_length ctx in
+    let s = segment_length c.args.self.now in
     let k = c.slice_of-slice.result in
     let two = c.segment_length.ensures.sizes.two_columns in
     let slice = rw (← c.slice_of-slice.ensures) at (in_slice s c.args.column two c.requires.place.in_columns) in

@@ -48,20 +48,13 @@ loop-index-preserved c =
 
 pub returns : goal.returns
 returns c =
-    let ctx = c.args.self.now in
-    let slice = c.args.slice in
-    let lane = c.args.lane in
     let last = c.loop-index.invariant in
     record {
       size = last.size;
       made = λ first memory parts is i lt.
           let m = last.filled first memory parts is in
           let turns = c.first_index-start.ensures.turns in
-          let s = c.segment_length-segment.ensures.value in
-          let end = slice * segment_length ctx + c.loop-index.index in
-          let now : ahead ctx c.args.pass slice lane end lane ≡ end = grind (arith, nat_tests) in
-          let done : slice * segment_length ctx + i < ahead ctx c.args.pass slice lane end lane = omega arith in
-          m.1.0.in_own i lt
-          ∙ m.1.1.new lane (slice * segment_length ctx + i) c.requires.in_lanes
-          (in_lane (segment_length ctx) slice i c.requires.in_slices lt) done;
+          let s = segment_length c.args.self.now in
+          let fits = in_lane s c.args.slice i c.requires.in_slices lt in
+          grind (arith, nat_tests, m.1.0.in_own i, m.1.1.new c.args.lane (c.args.slice * s + i));
     }
