@@ -1,4 +1,4 @@
-use Rattle.argon2.proofs.Imports.{Ok, ap, ◌∙◌}
+use Rattle.argon2.proofs.Imports.{Ok, ap, rules, ◌∙◌}
 use Rattle.argon2.proofs.bound.Bound.verify.Goals as goal
 
 pub verify_with_params-requires : goal.verify_with_params-requires
