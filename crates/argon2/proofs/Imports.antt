@@ -42,7 +42,7 @@ pub use Rattle.argon2.specs.Steps.{IsSchedule, IsStep, last_column, previous_pla
 unfoldable pub use Rattle.argon2.specs.Steps.{in_memory, reference_place, run, run_passes, run_slices, step}
 pub use Rattle.argon2.specs.StoredTexts.{Accepts, AcceptsBy, IsVerifyAnswer, is_tag, result_and_then, settings_value, shown_settings, stored_of, verify_outcome}
 pub use Rattle.argon2.specs.TextHashing.{IsHashAnswer, IsTarget, Target, algorithm_or_default, hash_outcome, hash_value, tag_length, target_of, with_tag_length}
-pub use Rattle.argon2.specs.WatchedFilling.{Fills, HasBlocksUpTo, HasPositionsUpTo, IsFilledFrom, IsFilledUpTo, Watches, columns_before, in_order, place_count, position_index}
+pub use Rattle.argon2.specs.WatchedFilling.{Fills, HasBlocksUpTo, HasPositionsUpTo, IsFilledFrom, IsFilledUpTo, Watches, columns_before, in_order, position_index}
 unfoldable pub use Rattle.argon2.specs.WatchedFilling.{address_mixings, independent_segments, mixing_calls, segment_calls, slices_calls}
 pub use Rattle.argon2.specs.declared.algorithm.Algorithm.{Algorithm}
 pub use Rattle.argon2.specs.declared.context.Argon2.{Argon2}

@@ -1,9 +1,9 @@
 -- How far the memory and the positions are filled while the lanes of a slice come one after the other.
-use Rattle.argon2.proofs.Imports.{◌≡◌, ℕ, suc, ◌+◌, ◌*◌, ◌<◌, ◌≤◌, ◌≢◌, List, subst, sym, add-one, arith, slice_set, nat_tests, Context, FirstColumns, segment_length, Memory, Sizes, Begins}
+use Rattle.argon2.proofs.Imports.{◌≡◌, ℕ, suc, ◌+◌, ◌*◌, ◌<◌, ◌≤◌, ◌≢◌, List, add-one, arith, slice_set, nat_tests, Context, FirstColumns, segment_length, Memory, Sizes, Begins}
 use Rattle.argon2.proofs.Imports.{columns_before, in_order, position_index, IsFilledFrom, IsFilledUpTo, IsStep, reference_place, step}
 use Rattle.argon2.proofs.recurrence.PermittedPlaces.{InSlice}
-use Rattle.argon2.proofs.context_lemmas.Filling.{filled_at_first, filled_at_last, next_pass, step_answers, step_fills, HasBlocksUpTo-like}
-use Rattle.argon2.proofs.context_lemmas.ReferencePlaces.{first_positions, next_positions, step_positions, HasPositionsUpTo-like}
+use Rattle.argon2.proofs.context_lemmas.Filling.{filled_at_first, filled_at_last, next_pass, step_answers, step_fills}
+use Rattle.argon2.proofs.context_lemmas.ReferencePlaces.{step_positions}
 use Rattle.argon2.proofs.context_lemmas.Schedules.{turn_count-le}
 
 -- counts of made columns that agree say the same
@@ -11,7 +11,7 @@ pub IsFilledUpTo-like : (ctx : Context) (first : FirstColumns) (pass : ℕ) (don
     (old new : List ℕ) → ((l : ℕ) → l < ctx.p_cost → done l ≡ done' l)
     → IsFilledUpTo ctx first pass done memory old new → IsFilledUpTo ctx first pass done' memory old new
 IsFilledUpTo-like ctx first pass done done' memory old new same is =
-    grind (arith, HasBlocksUpTo-like, HasPositionsUpTo-like)
+    grind arith
 
 -- a step fills a column more of its lane
 pub filled_step : (ctx : Context) → Sizes ctx → (first : FirstColumns) (pass slice lane column : ℕ) (memory : Memory)
@@ -42,17 +42,16 @@ filled_step ctx sizes first pass slice lane column memory old new t st here is =
 pub filled_first : (ctx : Context) → Sizes ctx → (first : FirstColumns) (memory : Memory) (positions : List ℕ)
     → Begins ctx first memory → IsFilledUpTo ctx first 0 (λ _. columns_before ctx 0 0) memory positions positions
 filled_first ctx sizes first memory positions begins =
-    record { blocks = filled_at_first ctx sizes first memory begins; positions = first_positions ctx sizes first positions }
+    let two = sizes.two_columns in
+    let blocks = filled_at_first ctx sizes first memory begins in
+    grind arith
 
 -- the end of a pass is the start of the next
 pub filled_next : (ctx : Context) (first : FirstColumns) (pass : ℕ) (memory : Memory) (old new : List ℕ)
     → IsFilledUpTo ctx first pass (λ _. columns_before ctx pass 4) memory old new
     → IsFilledUpTo ctx first (pass + 1) (λ _. columns_before ctx (pass + 1) 0) memory old new
 filled_next ctx first pass memory old new is =
-    subst (λ n. IsFilledUpTo ctx first n (λ _. columns_before ctx n 0) memory old new) (sym (add-one pass)) (record {
-      blocks = next_pass ctx first pass memory is.blocks;
-      positions = λ size. next_positions ctx first pass old new (is.positions size);
-    })
+    let blocks = next_pass ctx first pass memory is.blocks in rw (add-one pass) (grind (arith, nat_tests))
 
 -- after all passes stand the matrix and all references
 pub filled_last : (ctx : Context) → Sizes ctx → (first : FirstColumns) (passes : ℕ) (memory : Memory) (old new : List ℕ)

@@ -1,6 +1,6 @@
 -- The places that the steps record are those of the recurrence's references.
-use Rattle.argon2.proofs.Imports.{◌≡◌, ℕ, suc, ◌+◌, ◌*◌, ◌<◌, ◌≢◌, List, length, ◌∙◌, arith, slice_set, length-set, get_or-set_same, get_or-set_other, mul-add-lt, same_from_place, Context}
-use Rattle.argon2.proofs.Imports.{FirstColumns, block_count, lane_length, Sizes, reference_places, IsStep, columns_before, nat_tests, place_count, position_index, HasPositionsUpTo}
+use Rattle.argon2.proofs.Imports.{◌≡◌, ℕ, suc, ◌+◌, ◌*◌, ◌<◌, ◌≢◌, List, ◌∙◌, arith, slice_set, length-set, get_or-set_same, get_or-set_other, mul-add-lt, same_from_place, Context}
+use Rattle.argon2.proofs.Imports.{FirstColumns, block_count, lane_length, Sizes, reference_places, IsStep, position_index, HasPositionsUpTo}
 use Rattle.argon2.proofs.context_lemmas.InMemory.{place_below}
 
 -- blocks of one index are one block
@@ -12,12 +12,6 @@ position_index-same ctx pass lane column r l c a b x y e =
     (place_below ctx l c x y) (place_below ctx lane column a b) e in
     let inner = same_from_place l c lane column (lane_length ctx) y b outer.1 in
     (outer.0, inner.0, inner.1)
-
--- counts of made columns that agree say the same
-pub HasPositionsUpTo-like : (ctx : Context) (first : FirstColumns) (pass : ℕ) (done done' : ℕ → ℕ) (old new : List ℕ)
-    → ((l : ℕ) → l < ctx.p_cost → done l ≡ done' l)
-    → HasPositionsUpTo ctx first pass done old new → HasPositionsUpTo ctx first pass done' old new
-HasPositionsUpTo-like ctx first pass done done' old new same has = grind arith
 
 -- a step records its reference's place
 pub step_positions : (ctx : Context) → Sizes ctx → (first : FirstColumns) (pass lane column : ℕ) (done done' : ℕ → ℕ)
@@ -41,15 +35,3 @@ step_positions ctx sizes first pass lane column done done' old new place st t is
           let one = position_index-same ctx pass lane column 0 l c st.in_lanes st.in_columns a (omega arith) in
           grind (arith, get_or-set_other new i (position_index ctx 0 l c), has.of_first_columns l c a b);
     }
-
--- the end of a pass is the start of the next
-pub next_positions : (ctx : Context) (first : FirstColumns) (pass : ℕ) (old new : List ℕ)
-    → HasPositionsUpTo ctx first pass (λ _. columns_before ctx pass 4) old new
-    → HasPositionsUpTo ctx first (suc pass) (λ _. columns_before ctx (suc pass) 0) old new
-next_positions ctx first pass old new has = grind (arith, nat_tests)
-
--- before the first step the list is as it was
-pub first_positions : (ctx : Context) → Sizes ctx → (first : FirstColumns) (old : List ℕ) → length old ≡ place_count ctx
-    → HasPositionsUpTo ctx first 0 (λ _. columns_before ctx 0 0) old old
-first_positions ctx sizes first old size =
-    let two = sizes.two_columns in grind arith

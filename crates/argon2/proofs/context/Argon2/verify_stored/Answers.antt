@@ -1,4 +1,4 @@
-use Rattle.argon2.proofs.Imports.{rules, sym, ◌∙◌, bytes_eq-Decides}
+use Rattle.argon2.proofs.Imports.{rules, sym, ◌∙◌}
 use Rattle.argon2.proofs.context.Argon2.verify_stored.Goals as goal
 
 pub returns : goal.returns

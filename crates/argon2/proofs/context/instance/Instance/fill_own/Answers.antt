@@ -1,7 +1,7 @@
-use Rattle.argon2.proofs.Imports.{◌≡◌, ◌+◌, ◌-◌, ◌*◌, ◌/◌, ◌<◌, refl, ◌∙◌, arith, nat_tests, segment_length, columns_before}
+use Rattle.argon2.proofs.Imports.{◌≡◌, ◌+◌, ◌-◌, ◌*◌, ◌/◌, refl, ◌∙◌, arith, nat_tests, segment_length, columns_before}
 use Rattle.argon2.proofs.context_lemmas.Filling.{HasBlocksUpTo-like}
 use Rattle.argon2.proofs.context_lemmas.SegmentColumns.{a_column, a_step, in_lane, same_addresses}
-use Rattle.argon2.proofs.context_lemmas.SegmentParts.{ahead, ahead_step}
+use Rattle.argon2.proofs.context_lemmas.SegmentParts.{ahead_step}
 use Rattle.argon2.proofs.context.instance.Instance.fill_own.Goals as goal
 
 pub loop-index-init : goal.loop-index-init
