@@ -3,7 +3,6 @@ pub mod Filling
 pub mod InMemory
 pub mod InOrder
 pub mod LastColumn
-pub mod ReferencePlaces
 pub mod Refusing
 pub mod Schedules
 pub mod SegmentColumns
