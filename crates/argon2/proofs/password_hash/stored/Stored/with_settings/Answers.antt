@@ -1,4 +1,4 @@
-use Rattle.argon2.proofs.Imports.{◌≡◌, Ok, length, ap, rules, ◌∙◌, option_map, IfSome, phc_of, HasBytes, settings_value, shown_settings, ℕ, List, Option, arith}
+use Rattle.argon2.proofs.Imports.{◌≡◌, Ok, length, ap, rules, ◌∙◌, option_map, phc_of, settings_value, shown_settings, ℕ, List, Option, arith}
 use Rattle.argon2.proofs.Imports.{Pair, Phc, Parameters, Settings, params_of}
 use Rattle.argon2.proofs.password_hash.stored.Stored.with_settings.Goals as goal
 
@@ -17,8 +17,3 @@ invariant_of-result-clause-sized c =
     let shown : Ok (settings_value c.in_ok-settings.field-0) ≡ shown_settings (phc_of c.args.hash.now) = search rules in
     shown_length (phc_of c.args.hash.now) (settings_value c.in_ok-settings.field-0) shown
     ∙ ap (option_map length) c.in-Some-Some.is-1
-
-pub invariant_of-result-clause-fits : goal.invariant_of-result-clause-fits
-invariant_of-result-clause-fits c =
-    let has : IfSome c.args.hash.now.hash (HasBytes 4 64) = c.args.hash.now.grammatical.hash in
-    (rw c.in-Some-Some.is-1 at has).2
