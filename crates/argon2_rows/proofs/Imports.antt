@@ -11,7 +11,7 @@ pub use Rattle.std.specs.FinMap.{entries, entries-from_sorted, entries-insert, e
 pub use Rattle.std.specs.FinMap.{nat_cmp-IsAntisymmetric, put, remove, same_entries_map, same_map, slice_cmp-IsAntisymmetric}
 pub use Rattle.std.specs.List.{AllByRecursion, flat_map}
 pub use Rattle.std.specs.Ordering.{eq_by_cmp, nat_cmp, ordering_then, is_gt}
-pub use Rattle.std.specs.Prelude.{All, Any, IfErr, IfSome, IsErrAnd, MatchResult, OnOk, ⊤}
+pub use Rattle.std.specs.Prelude.{All, Any, IfErr, IfSome, IsErrAnd, IsSomeAnd, MatchResult, OnOk, ⊤}
 pub use Rattle.std.specs.Str.{bytes_eq, chars}
 pub use Rattle.std.specs.Io.KnownBytes.{Keeps, Appends}
 pub use Rattle.sqlite_value.specs.Keys.{entry_cmp, plain, prefix_cmp}

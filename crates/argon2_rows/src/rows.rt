@@ -275,8 +275,7 @@ pub fn write_rows<S: Store, W: Write>(
         }
         match write_line(row, view, output) {
             Some(Written::All) => {}
-            Some(Written::Breaks) => return Ok(Written::Breaks),
-            Some(Written::Failed(error)) => return Ok(Written::Failed(error)),
+            Some(stopped) => return Ok(stopped),
             None => return Err(StoreError::Corrupt),
         }
     }

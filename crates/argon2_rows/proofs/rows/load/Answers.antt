@@ -1,13 +1,9 @@
-use Rattle.argon2_rows.proofs.Imports.{rules, arith, ap, ◌∙◌, Trees}
-use Rattle.argon2_rows.proofs.RowLemmas.{all_read, begin, is_next, step}
+use Rattle.argon2_rows.proofs.Imports.{arith, ap, ◌∙◌, Trees}
+use Rattle.argon2_rows.proofs.RowLemmas.{all_read, begin, is_next}
 use Rattle.argon2_rows.proofs.rows.load.Goals as goal
-use Rattle.argon2_rows.proofs.rows.load.Goals.{then-not-is_account-via-then-not-is_account, then-not-is_account-via-else-not-is_account+then-is_same}
 
 pub loop-init : goal.loop-init
 loop-init g c = search (arith, begin)
-
-pub loop-preserved : goal.loop-preserved
-loop-preserved g c = (search rules, search rules, λ clean. search (arith, step))
 
 pub returns-then-not-branch-clause-found : goal.returns-then-not-branch-clause-found
 returns-then-not-branch-clause-found g c ended =

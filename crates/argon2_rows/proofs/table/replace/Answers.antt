@@ -1,10 +1,7 @@
-use Rattle.argon2_rows.proofs.Imports.{arith, Some, None, changed}
+use Rattle.argon2_rows.proofs.Imports.{Some, None, changed}
 use Rattle.argon2_rows.proofs.RowLemmas.{changed-remove, get-changed}
 use Rattle.argon2_rows.proofs.TableLemmas.{writes_then}
 use Rattle.argon2_rows.proofs.table.replace.Goals as goal
-
-pub returns-in_err-remove-clause-writes : goal.returns-in_err-remove-clause-writes
-returns-in_err-remove-clause-writes g c names has = let wrote = c.in_err-remove.ensures.writes names has in search arith
 
 pub returns-clause-writes : goal.returns-clause-writes
 returns-clause-writes g c names has =
