@@ -1,6 +1,6 @@
 -- Names to which several are added.
 use Rattle.argon2_rows.proofs.Imports.{◌≡◌, ℕ, List, [], ◌∷◌, ◌++◌, false, Some, Result, Ok, Err, refl, Io, arith, inl, map, Bor, Any, StoreError, Ghosts, Texts, AddsAll, AddsEach, AddsNames, IsAdded}
-use Rattle.argon2_rows.proofs.Imports.{WritesAll, IsPermutation, entry_of, Changes, bytes_eq-Decides, true, HasBegun, IsKept, Writes, written_of, HasRows, IsHonest, IsLong, IsOpen, StaysQuiet}
+use Rattle.argon2_rows.proofs.Imports.{WritesAll, IsPermutation, entry_of, Changes, bytes_eq-Decides, true, HasBegun, IsKept, Writes, written_of, HasRows, HasFailed, CrashLeaves, ◌⊎◌, IsHonest, IsLong, IsOpen, StaysQuiet}
 use Rattle.argon2_rows.proofs.Imports.{StoredText}
 use Rattle.std.proofs.lemmas.Result.{on_ok_weaker}
 use Rattle.argon2_rows.specs.declared.table.AddError.{AddError}
@@ -84,18 +84,9 @@ module _ {S : Type 0} (g : Ghosts S) where
     pub unwritten : (es : List (List ℕ × List ℕ)) → Settled g → (IsHonest g old → IsOpen g old) → IsKept g old before
         → (IsHonest g mid → (g.view mid).is_open ≡ false) → AddsNames g old mid before es (Err Io)
     unwritten es settled was_open has shut =
-        let earlier : IsHonest g mid → IsHonest g old = λ clean. omega (arith, clean, quiet.clean) in (
-          before,
-          λ clean. inl refl,
-          tt,
-          record {
-            honest = earlier;
-            kept = had;
-            crash = λ clean db found.
-                let left = leaves_quiet g settled old mid before has quiet clean (was_open (earlier clean)) db found in
-                (left.0, left.1, inl left.2);
-            durable = tt;
-            cause = λ clean. grind (arith, quiet.closes clean (was_open (earlier clean)));
-            closes = λ clean. quiet.closes clean (was_open (earlier clean));
-          },
-        )
+        let earlier : IsHonest g mid → IsHonest g old = λ clean. omega (arith, clean, quiet.clean) in
+        let closes : IsHonest g mid → IsOpen g mid ⊎ HasFailed g old mid = λ clean. quiet.closes clean (was_open (earlier clean)) in
+        let crash : IsHonest g mid → CrashLeaves g mid (λ left. (left ≡ before) ⊎ (left ≡ before)) = λ clean db found.
+        let left = leaves_quiet g settled old mid before has quiet clean (was_open (earlier clean)) db found in
+        (left.0, left.1, inl left.2) in
+        (before, λ clean. inl refl, tt, search arith)

@@ -1,6 +1,6 @@
 -- The words that the proofs of this crate use.
-pub use Rattle.std.proofs.Common.{Bool, Err, IsPermutation, IsSome, IsTrue, IsUtf8, Less, List, None, Ok, Option, Ordering, Result, Some, T, [], ap, append-nil, append_assoc, arith, cond, false}
-pub use Rattle.std.proofs.Common.{get_or, inl, inr, length, lit<, map, not, refl, rules, subst, sym, take, true, ℕ, ◌++◌, ◌<◌, ◌∙◌, ◌∷◌, ◌≡◌, ◌≢◌, ◌↔◌}
+pub use Rattle.std.proofs.Common.{Bool, Err, IsPermutation, IsSome, IsTrue, IsUtf8, Less, List, None, Ok, Option, Ordering, Result, Some, T, [], ap, arith, cond, false}
+pub use Rattle.std.proofs.Common.{get_or, inl, inr, length, lit<, map, not, refl, rules, subst, sym, take, true, ℕ, ◌++◌, ◌<◌, ◌∙◌, ◌∷◌, ◌≡◌, ◌≢◌, ◌⊎◌, ◌↔◌}
 pub use Rattle.std.proofs.lemmas.Cmp.{tied_itself, alike_right}
 pub use Rattle.std.proofs.lemmas.List.{get_or-map, length-map, map_more, take-map, take_all, map-id}
 pub use Rattle.std.proofs.lemmas.Slice.Eq.{bytes_eq-Decides}
@@ -19,13 +19,13 @@ pub use Rattle.sqlite_value.specs.Order.{Row, column, number, row_cmp}
 pub use Rattle.sqlite_trees.specs.Tree.{IsIndex, Trees, from_key, insert_entry, order_of, remove_entry, sought}
 pub use Rattle.sqlite_trees.specs.View.{Advances, IsFailure, IsOrdered, IsStorable, KeepsSchema, OnlyWrites, View, is_int, with_cursor, HasCause, Tells, doubt}
 pub use Rattle.sqlite_trees.specs.declared.error.StoreError.{StoreError}
-pub use Rattle.sqlite_trees.specs.declared.error.StoreError.TheVariants.{Io, OutOfMemory}
+pub use Rattle.sqlite_trees.specs.declared.error.StoreError.TheVariants.{Io}
 pub use Rattle.sqlite_trees.specs.declared.store.Direction.TheVariants.{Forward}
 pub use Rattle.sqlite_trees.specs.declared.store.Shape.TheVariants.{Index}
 pub use Rattle.sqlite_trees.specs.declared.store.Store.{Ghosts}
 pub use Rattle.sqlite_store.proofs.RowLemmas.{from_key-none}
 pub use Rattle.argon2_rows.specs.Names.{AddsAll, AddsEach, IsAdded, Texts, changed, entry_of}
-pub use Rattle.argon2_rows.specs.Rows.{AreLines, AreTexts, AreLinesOf, AreWritten, IsLineOf, HasNoneAfter, IsAccount, IsAfterAll, IsFoundAs, breaks_line, row_of, rows_of, line, lines, shown_char}
-pub use Rattle.argon2_rows.specs.Table.{Changes, EndsRead, Finishes, HasBegun, HasRows, HasSome, IsUnwritten, IsHonest, IsKept, IsLong, IsOpen, CrashLeaves, Sees, StaysQuiet, AddsNames, Writes}
+pub use Rattle.argon2_rows.specs.Rows.{AreLines, AreTexts, AreLinesOf, AreWritten, IsLineOf, HasNoneAfter, IsAccount, IsAfterAll, IsFoundAs, breaks_line, row_of, rows_of, shown_char}
+pub use Rattle.argon2_rows.specs.Table.{Changes, EndsRead, Finishes, HasBegun, HasFailed, HasRows, HasSome, IsUnwritten, IsHonest, IsKept, IsLong, IsOpen, CrashLeaves, Sees, StaysQuiet, AddsNames, Writes}
 pub use Rattle.argon2_rows.specs.Table.{WritesAll, done_of, written_of, IsDue, IsTold}
 pub use Rattle.argon2_rows.specs.declared.text.StoredText.{StoredText}

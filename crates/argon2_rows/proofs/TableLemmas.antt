@@ -1,7 +1,7 @@
 -- What the rows of a table are after each step of a change.
-use Rattle.argon2_rows.proofs.Imports.{◌≡◌, Result, Ok, Err, false, refl, IsTrue, arith, inl, inr, IfErr, IsErrAnd, MatchResult, OnOk, plain, StoreError, Index, Ghosts, Trees, View, IsFailure}
-use Rattle.argon2_rows.proofs.Imports.{KeepsSchema, OnlyWrites, Texts, AreTexts, Changes, EndsRead, Finishes, HasBegun, HasRows, HasSome, IsHonest, IsKept, IsOpen, CrashLeaves, Sees, StaysQuiet}
-use Rattle.argon2_rows.proofs.Imports.{Writes, done_of, IsDue, IsTold, HasCause, Tells}
+use Rattle.argon2_rows.proofs.Imports.{◌≡◌, Result, Ok, Err, false, refl, IsTrue, arith, inl, inr, IfErr, IsErrAnd, MatchResult, OnOk, plain, StoreError, Index, Ghosts, Trees, View}
+use Rattle.argon2_rows.proofs.Imports.{KeepsSchema, Texts, AreTexts, Changes, EndsRead, Finishes, HasBegun, HasRows, HasSome, IsHonest, IsKept, IsOpen, CrashLeaves, Sees, StaysQuiet}
+use Rattle.argon2_rows.proofs.Imports.{Writes, done_of, IsDue, IsTold, HasCause}
 use Rattle.std.specs.Coded.{Coded-set}
 use Rattle.std.proofs.Math.Logic.{∥∥₁_elim, ∥∥₁_map}
 use Rattle.sqlite_disk.specs.Disk.{MoreFaults}
@@ -29,17 +29,11 @@ open_if_sound v broken sound = grind arith
 abbrev pub Settled : {S : Type 0} → Ghosts S → Type 0
 Settled {S} g = (s : S) (db : Trees) → IsOpen g s → g.recovers s db → db ≡ (g.view s).committed
 
--- a crash leaves the names of a store that is open
-pub leaves_kept : {S : Type 0} (g : Ghosts S) (s : S) (names : Texts)
-    → ((db : Trees) → IsOpen g s → g.recovers s db → db ≡ (g.view s).committed)
-    → IsKept g s names → IsHonest g s → IsOpen g s → CrashLeaves g s (λ left. left ≡ names)
-leaves_kept g s names settled kept clean is_open db found = (names, (search arith), refl)
-
 -- a crash leaves the names after a call that changed nothing
 pub leaves_quiet : {S : Type 0} (g : Ghosts S) → Settled g → (old new : S) (names : Texts) → IsKept g old names
     → StaysQuiet g old new → IsHonest g new → IsOpen g old → CrashLeaves g new (λ left. left ≡ names)
 leaves_quiet g settled old new names kept quiet clean is_open db found =
-    leaves_kept g old names (settled old) kept (omega (arith, clean, quiet.clean)) is_open db (quiet.outcomes db found)
+    let was : IsHonest g old = omega (arith, clean, quiet.clean) in (names, search arith, refl)
 
 -- ---- causes
 
@@ -56,27 +50,6 @@ module _ {S : Type 0} (g : Ghosts S) where
 
   pub quiet_then : (a b c : S) → StaysQuiet g a b → StaysQuiet g b c → StaysQuiet g a c
   quiet_then a b c x y = search arith
-
-  -- a call that writes no row
-  pub writes_nothing : {s : S} {before after : Texts} {long : Type 0} → (IsHonest g s → after ≡ before)
-      → Writes g s s before after long (Ok tt)
-  writes_nothing same = search arith
-
-  -- a call on the store that writes a row
-  pub writes_row : {old new : S} {before after : Texts} {long : Type 0} (r : Result (Unit {0}) StoreError)
-      → OnOk r (IsHonest g new → OnlyWrites (g.view old) (g.view new))
-      → (IsHonest g new → IfErr r (IsFailure (g.view old) (g.view new)))
-      → OnOk r (IsHonest g new → Sees (g.view old) before → Sees (g.view new) after)
-      → (IsHonest g new → IfErr r (HasCause (g.view old) (MoreFaults (g.faults old) (g.faults new)) long))
-      → (IsHonest g new → IfErr r (Tells (g.blamed new)))
-      → KeepsSchema (g.view old) (g.view new) → StaysQuiet g old new → Writes g old new before after long r
-  writes_row r frame failed sees cause told schema quiet = search arith
-
-  -- a call that reads
-  pub reads_ok : {old new : S} {names : Texts}
-      → (IsHonest g new → g.view new ≡ record (g.view old) { cursors = (g.view new).cursors })
-      → KeepsSchema (g.view old) (g.view new) → StaysQuiet g old new → Writes g old new names names ⊥ (Ok tt)
-  reads_ok same schema quiet = search (arith, writes_row)
 
   pub keeps_index : {a b : S} → KeepsSchema (g.view a) (g.view b) → StaysQuiet g a b
       → (IsHonest g a → (g.view a).shape 0 ≡ Index plain) → IsHonest g b → (g.view b).shape 0 ≡ Index plain
@@ -105,7 +78,7 @@ module _ {S : Type 0} {g : Ghosts S} where
 
   pub writes_more : {a b : S} {x y : Texts} {P Q : Type 0} {r : Result (Unit {0}) StoreError} → Writes g a b x y P r → (P → Q)
       → Writes g a b x y Q r
-  writes_more wrote more = writes_then (writes_nothing g {long = ⊥} (λ clean. refl)) wrote more
+  writes_more wrote more = search (arith, cause_map)
 
   -- if rows are not all written, nothing is said of the names
   pub writes_less : {a b : S} {x y z : Texts} {P Q : Type 0} {r : Result (Unit {0}) StoreError} (e : StoreError)
@@ -166,7 +139,7 @@ module _ {S : Type 0} {g : Ghosts S} where
             | inr earlier ↦ (before, (begun now).left db earlier, inl refl)
           ];
           durable = on_both _ result is ends.is_open (λ ended opens clean.
-              (opens clean, leaves_kept g new after (settled new) ended clean (opens clean)));
+              (opens clean, leaves_quiet g settled new new after ended (quiet_itself g new) clean (opens clean)));
           cause = cause_of done result wrote ends;
           closes = λ now. grind arith;
         }

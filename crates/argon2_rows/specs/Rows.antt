@@ -73,11 +73,6 @@ abbrev pub line : View → List ℕ × List ℕ → List ℕ
 line Names e = shown e.0 ++ 10 ∷ []
 line Texts e = e.0 ++ 58 ∷ e.1 ++ 10 ∷ []
 
--- the lines of names
-abbrev pub lines : View → List (List ℕ × List ℕ) → List ℕ
-lines view [] = []
-lines view (e ∷ es) = line view e ++ lines view es
-
 -- the line of the name with its text would read as that of another: the name has a line break or a colon
 abbrev pub breaks_line : View → List ℕ → Bool
 breaks_line Names name = false
@@ -95,9 +90,9 @@ IsLineOf view e old new (Failed why) = ⊤
 
 -- the lines of these names are written, or those before the first name that breaks it, and no more
 abbrev pub AreLinesOf : View → List (List ℕ × List ℕ) → Option (List ℕ) → Option (List ℕ) → Written → Type 0
-AreLinesOf view es old new written.All = Appends old new (lines view es) × FitLines view es
+AreLinesOf view es old new written.All = Appends old new (flat_map (line view) es) × FitLines view es
 AreLinesOf view es old new Breaks = (before after : List (List ℕ × List ℕ)) × (e : List ℕ × List ℕ)
-    × (es ≡ before ++ e ∷ after) × FitLines view before × (breaks_line view e.0 ≡ true) × Appends old new (lines view before)
+    × (es ≡ before ++ e ∷ after) × FitLines view before × (breaks_line view e.0 ≡ true) × Appends old new (flat_map (line view) before)
 AreLinesOf view es old new (Failed why) = ⊤
 
 -- the lines of all names

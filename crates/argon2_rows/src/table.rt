@@ -125,15 +125,13 @@ fn add<S: Store>(
         IsAdded before name.now text.now is_new after
         × (IsTrue is_last.new → HasNoneAfter after name.now)) }
 {
-    let found = if *is_last {
-        None
-    } else {
-        find(store, row, key, name)?
-    };
-    if found == Some(true) {
-        return Ok(false);
+    if !*is_last {
+        match find(store, row, key, name)? {
+            Some(true) => return Ok(false),
+            Some(false) => {}
+            None => *is_last = true,
+        }
     }
-    *is_last = found.is_none();
     insert(store, row, name, text)?;
     Ok(true)
 }

@@ -1,7 +1,7 @@
 use Rattle.argon2_rows.proofs.Imports.{◌<◌, ◌≡◌, arith, length, ℕ, List, [], refl, map, get_or, sym, Bor, get_or-map, length-map, map_more, StoredText, ◌∙◌, ap, take-map, take_all, Any, entry_of}
 use Rattle.argon2_rows.proofs.Imports.{IsLong, Texts, HasNoneAfter, IsAfterAll, Less, slice_cmp, nat_cmp, nat_list_cmp_total}
 use Rattle.argon2_rows.proofs.AddLemmas.{add_last}
-use Rattle.argon2_rows.proofs.TableLemmas.{err_is, keeps_index, writes_nothing, writes_then}
+use Rattle.argon2_rows.proofs.TableLemmas.{err_is, keeps_index, writes_then}
 use Rattle.argon2_rows.proofs.table.add_each.Goals as goal
 
 some_long : (new : List (Bor (List ℕ) × StoredText)) (i : ℕ) (e : Bor (List ℕ) × StoredText) → i < length new
@@ -16,7 +16,7 @@ past names last name later none is clean = search (arith, nat_list_cmp_total.tra
 
 pub loop-k-init : goal.loop-k-init
 loop-k-init g c =
-    (c.requires, λ before texts sees. (before, texts, λ clean. (refl, λ is. absurd cc), search (arith, writes_nothing)))
+    (c.requires, λ before texts sees. (before, texts, λ clean. (refl, λ is. absurd cc), search arith))
 
 pub returns-in_err-add : goal.returns-in_err-add
 returns-in_err-add g c before texts sees =
