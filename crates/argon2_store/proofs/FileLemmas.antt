@@ -5,7 +5,7 @@ use Rattle.argon2_store.proofs.Imports.{length-map, get_or-map, iff_false, true_
 use Rattle.argon2_store.proofs.Imports.{Answers, error_of, IsClosed, IsErrorAt, Makes, Serves, AddsAll, IsFirstTaken, Stays, database_of, read_of, call_error}
 use Rattle.argon2_store.proofs.Imports.{Changes, IsHonest, IsLong, IsOpen, CrashLeaves, StaysQuiet, changed, AccountFile, FileError, Closed, NameTaken, OutOfMemory}
 use Rattle.argon2_store.proofs.Imports.{String, IsSome, Edit, adding, IsTooLong, additions, gives, is_refusal, names_after, name_of, refusal, HasCause, HasFailedBy}
-use Rattle.argon2_store.proofs.Imports.{HasNames, NamesStay, lines_by, read_by, IsDue, IsTold, both_ways, changed_back, Keeps, Settled, err_is, leaves_kept}
+use Rattle.argon2_store.proofs.Imports.{HasNames, NamesStay, lines_by, read_by, IsDue, IsTold, both_ways, changed_back, Keeps, Settled, err_is, shape_of}
 use Rattle.argon2_store.proofs.Imports.{leaves_quiet, on_all, quiet_itself}
 use Rattle.argon2_rows.specs.declared.view.Written.{Written}
 use Rattle.sqlite_trees.specs.View.{HasCause as Cause, View}
@@ -66,7 +66,7 @@ long_additions es before (i, e, within, is, long) =
 module _ {S : Type 0} {g : Ghosts S} (settled : Settled g) (old : AccountFile S g) {b : Bool}
     (tests : IsTrusted old → IsTrue b ↔ IsClosed old) where
   pub shut_out : b ≡ true → NamesStay (Some Closed) old old
-  shut_out shut names has = search (arith, leaves_kept)
+  shut_out shut names has = search (arith, leaves_quiet, quiet_itself)
 
   module _ (shut : b ≡ false) where
     pub is_open : IsTrusted old → IsOpen g (database_of old)
@@ -223,4 +223,4 @@ pub cannot_serve : {S : Type 0} {g : Ghosts S} {edits : List Edit} {old mid : Ac
     {r : Result (Unit {0}) FileError} → NamesStay (Some e) old mid → IsErrAnd r (λ f. f ≡ e) → Serves edits r old mid
 cannot_serve reads is before has = rw (err_is _ _ is) (before, fails (reads before has))
 
-pub ruleset answers = (on_read, of_file, writes_at)
+pub ruleset answers = (on_read, of_file, writes_at, shape_of)

@@ -42,7 +42,7 @@ pub use Rattle.argon2_store.specs.declared.account_file.AccountFile.{AccountFile
 pub use Rattle.argon2_store.specs.declared.error.FileError.{FileError}
 pub use Rattle.argon2_rows.specs.Names.{AddsAll, IsFirstTaken, Texts, changed, entry_of}
 pub use Rattle.argon2_rows.proofs.RowLemmas.{rows_of-once, get-at, changed_back, texts_changed}
-pub use Rattle.argon2_rows.proofs.TableLemmas.{Settled, Keeps, err_is, leaves_kept, leaves_quiet, on_all, quiet_itself, has_same, some_kept, changes_of, has_either, writes_nothing, reads_keep, shape_of, taken_back}
+pub use Rattle.argon2_rows.proofs.TableLemmas.{Settled, Keeps, err_is, leaves_quiet, on_all, quiet_itself, has_same, some_kept, changes_of, has_either, reads_keep, shape_of, taken_back}
 pub use Rattle.sqlite_wal.specs.Reads.{AreClean, OnlyReads}
 pub use Rattle.argon2_store.specs.AccountFile.{Answers, IsClosed, IsErrorAt, Makes, Serves, Stays, error_of, database_of, HasNames, IsReady, HasCause, HasFailedBy, NamesStay}
 pub use Rattle.argon2_store.specs.Edits.{Edit, IsTooLong, adding, additions, gives, left_by, name_of, names_after, refusal}

@@ -1,4 +1,4 @@
-use Rattle.argon2_store.proofs.Imports.{arith, rules, inl, refl, subst, subst₂, sym, halves, no_doubt, settled_at, over_file, view, FoundIn, leaves_kept, AreClean}
+use Rattle.argon2_store.proofs.Imports.{arith, rules, inl, refl, subst, subst₂, sym, halves, no_doubt, settled_at, over_file, view, FoundIn, leaves_quiet, quiet_itself, AreClean}
 use Rattle.argon2_store.proofs.NextOpenLemmas.{near_found}
 use Rattle.argon2_store.proofs.OpenLemmas.{is_honest, of_database, seen_same, unharmed_by_reads, unharmed_then}
 use Rattle.argon2_store.proofs.account_file.AccountFile+FileStore+D.open_from.Goals as goal
@@ -15,8 +15,8 @@ returns-in-Ok-true-load-clause-ready g c =
       record {
         has = has;
         is_open = c.in-Ok-true-load.ensures.«open»;
-        left = λ clean. leaves_kept (over_file {g = g.D.Disk}) c.load.new.store names
-            (settled_at c.load.new.store g.met.D.Disk.seen_may_stay) has.1 clean (c.in-Ok-true-load.ensures.«open» clean);
+        left = λ clean. leaves_quiet over_file (λ s. settled_at s g.met.D.Disk.seen_may_stay) _ c.load.new.store names has.1
+            (quiet_itself over_file c.load.new.store) clean (c.in-Ok-true-load.ensures.«open» clean);
       },
       lines,
       λ clean. (has.0, subst₂ (FoundIn 4096) (search (arith, seen_same)) (rows clean) (c.in-Ok.ensures.found (search arith))),

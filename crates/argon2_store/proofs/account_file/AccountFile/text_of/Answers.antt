@@ -1,9 +1,6 @@
-use Rattle.argon2_store.proofs.Imports.{arith, IsHonest, IsOpen, reads_keep, shape_of, some_kept}
+use Rattle.argon2_store.proofs.Imports.{arith, IsHonest, IsOpen, reads_keep, some_kept}
 use Rattle.argon2_store.proofs.FileLemmas.{reads_of}
 use Rattle.argon2_store.proofs.account_file.AccountFile.text_of.Goals as goal
-
-pub look_up-text-requires : goal.look_up-text-requires
-look_up-text-requires g c = search (arith, shape_of)
 
 pub invariant_of-self : goal.invariant_of-self
 invariant_of-self g c = record {

@@ -1,5 +1,5 @@
 use Rattle.argon2_store.proofs.Imports.{arith, refl, None, IfSome, IsUtf8, IsSomeAnd, option_copied, ∥∥₁_map, Texts, HasRows, Changes, IsLong, Writes, changed}
-use Rattle.argon2_store.proofs.Imports.{changed_back, texts_changed, changes_of, has_either, writes_nothing}
+use Rattle.argon2_store.proofs.Imports.{changed_back, texts_changed, changes_of, has_either}
 use Rattle.argon2_store.proofs.account_file.AccountFile.write_row.Goals as goal
 use Rattle.argon2_store.proofs.account_file.AccountFile.write_row.Goals.{After-finish, in-Some-Some, in-Some-None, in-None-Some, in-None-None}
 
@@ -17,7 +17,7 @@ written g c before has =
       | in-Some-Some w ↦ let writes = w.replace-done.ensures.writes before in search arith
       | in-Some-None w ↦ let writes = w.remove-done.ensures.writes before in search arith
       | in-None-Some w ↦ let writes = w.insert-done.ensures.writes before in search arith
-      | in-None-None w ↦ let back = changed_back before before name None (λ other far. refl) in search (arith, writes_nothing)
+      | in-None-None w ↦ let back = changed_back before before name None (λ other far. refl) in search arith
     ] in
     changes_of g.met.S.Store.settled c.requires.open c.match-old.done c.finish.result has
     (texts_changed before name (option_copied c.args.new) has.0 c.utf8.name both.0) both.1 c.finish.ensures
