@@ -5,7 +5,7 @@ use Rattle.argon2_store.proofs.Imports.{length-map, get_or-map, iff_false, true_
 use Rattle.argon2_store.proofs.Imports.{Answers, error_of, IsClosed, IsErrorAt, Makes, Serves, AddsAll, IsFirstTaken, Stays, database_of, read_of, call_error}
 use Rattle.argon2_store.proofs.Imports.{Changes, IsHonest, IsLong, IsOpen, CrashLeaves, StaysQuiet, changed, AccountFile, FileError, Closed, NameTaken, OutOfMemory}
 use Rattle.argon2_store.proofs.Imports.{String, IsSome, Edit, adding, IsTooLong, additions, gives, is_refusal, names_after, name_of, refusal, HasCause, HasFailedBy}
-use Rattle.argon2_store.proofs.Imports.{HasNames, NamesStay, lines_by, read_by, IsDue, IsTold, both_ways, changed_back, Keeps, Settled, err_is, shape_of}
+use Rattle.argon2_store.proofs.Imports.{HasNames, NamesStay, lines_by, read_by, IsTold, both_ways, changed_back, Keeps, Settled, err_is, shape_of}
 use Rattle.argon2_store.proofs.Imports.{leaves_quiet, on_all, quiet_itself}
 use Rattle.argon2_rows.specs.declared.view.Written.{Written}
 use Rattle.sqlite_trees.specs.View.{HasCause as Cause, View}
@@ -26,9 +26,10 @@ pub on_read : {X : Type 0} (P : X → Type 0) (done : Result X StoreError) (r : 
 on_read P done r is p = grind arith
 
 -- a store that is not broken has failed by the fault that it told
-due : (closed : Type 0) (told : StoreError → Type 0) (v : View) (e : StoreError) {P Q R U : Type 0} → v.is_broken ≡ false
-    → (P → Q) → (R → U) → Cause v P R e × told e → HasCause closed (λ fault. Q × told fault) U (call_error e)
-due closed told v e sound failed longer why = grind (arith, both_ways)
+due : {X : Type 0} (closed : Type 0) (told : StoreError → Type 0) (v : View) (done : Result X StoreError) {P Q R U : Type 0}
+    → v.is_broken ≡ false → (P → Q) → (R → U) → IfErr done (λ e. Cause v P R e × told e)
+    → IfSome (error_of (read_of done)) (HasCause closed (λ fault. Q × told fault) U)
+due closed told v done sound failed longer why = grind (arith, both_ways)
 
 -- an error of writing comes with the number of entries
 pub writes_at : (before : Texts) (es : List (List ℕ × List ℕ)) (k : ℕ) → k ≡ length es → (e : StoreError) (error : FileError)
@@ -80,17 +81,12 @@ module _ {S : Type 0} {g : Ghosts S} (settled : Settled g) (old : AccountFile S 
         let left = leaves_quiet g settled (database_of old) (database_of new) names has.1 quiet in
         let never = λ (clean : IsTrusted old). iff_false (tests clean) shut in
         let was_open = is_open in
-        let cause = λ (clean : IsTrusted new). let was : IsTrusted old = omega (arith, clean, quiet.clean) in
-        due_of (has.1.sound was (is_open was)) done r is (why clean) in
+        let due_now = λ (clean : IsTrusted new). let was : IsTrusted old = omega (arith, clean, quiet.clean) in
+        let told : IfErr done (λ e. Cause (g.view (database_of old)) (HasFailed g (database_of old) (database_of new)) ⊥ e
+            × IsTold g (database_of new) e) = let due = why clean in grind arith in
+        due (IsClosed old) (IsTold g (database_of new)) (g.view (database_of old)) done (has.1.sound was (is_open was)) (λ f. f)
+        (λ never. never) told in
         grind arith
-      where
-        due_of : {X : Type 0} → (g.view (database_of old)).is_broken ≡ false → (done : Result X StoreError)
-            → (r : Result X FileError) → r ≡ read_of done → IfErr done (IsDue g (database_of old) (database_of new) ⊥)
-            → IfSome (error_of r) (HasCause (IsClosed old) (HasFailedBy old new) ⊥)
-        due_of sound (Ok x) r is why = rw is tt
-        due_of sound (Err e) r is why =
-            rw is (due (IsClosed old) (IsTold g (database_of new)) (g.view (database_of old)) e sound (λ f. f)
-            (λ never. never) (why.0, inl why.1))
 
     -- the store does nothing
     pub unread : NamesStay None old old
@@ -149,7 +145,7 @@ module _ {S : Type 0} {g : Ghosts S} {old mid : AccountFile S g} {before : Texts
         rw e (ends change (Err (call_error f)) before change.kept (λ clean. ((λ is. absurd cc), refl)) (λ is. absurd cc)
             (λ clean db found. let (names, held, is) = change.crash clean db found in
             let ended = then clean in (names, held, grind arith)) (λ clean. let was = change.honest clean in
-            due (IsClosed old) (IsTold g (database_of new)) (g.view (database_of mid)) f (reads.has.1.sound was (reads.is_open refl was))
+            due {X = Unit {0}} (IsClosed old) (IsTold g (database_of new)) (g.view (database_of mid)) (Err f) (reads.has.1.sound was (reads.is_open refl was))
             (λ failed. omega (arith, failed, reads.quiet.counts)) (too clean) (change.cause clean))),
       )
 
@@ -213,14 +209,10 @@ module _ {S : Type 0} {g : Ghosts S} {edit : Edit} {old mid : AccountFile S g} (
       (on_all done all) wrote r e
 
 -- a call on a file that can't be read
-pub fails : {S : Type 0} {g : Ghosts S} {edits : List Edit} {old mid : AccountFile S g} {before : Texts} {e : FileError}
-    → Stays (Some e) before old mid → Makes edits (Err e) old mid before before
-fails {e = e} reads =
-    let never = reads.of_file in let shut = reads.closed in let why = reads.cause in
-    ends_with (Err e) reads.has reads.quiet reads.left (grind arith) (grind arith) (grind arith)
-
 pub cannot_serve : {S : Type 0} {g : Ghosts S} {edits : List Edit} {old mid : AccountFile S g} {e : FileError}
     {r : Result (Unit {0}) FileError} → NamesStay (Some e) old mid → IsErrAnd r (λ f. f ≡ e) → Serves edits r old mid
-cannot_serve reads is before has = rw (err_is _ _ is) (before, fails (reads before has))
+cannot_serve {e = e} stays is before has =
+    let reads = stays before has in let never = reads.of_file in let shut = reads.closed in let why = reads.cause in
+    rw (err_is _ _ is) (before, ends_with (Err e) reads.has reads.quiet reads.left (grind arith) (grind arith) (grind arith))
 
 pub ruleset answers = (on_read, of_file, writes_at, shape_of)

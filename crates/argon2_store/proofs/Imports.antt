@@ -37,7 +37,7 @@ pub use Rattle.sqlite_wal.specs.Files.{outcomes, seen_image}
 pub use Rattle.sqlite_wal.specs.Format.{checksum, is_big, part}
 pub use Rattle.sqlite_wal.specs.Recovery.{AreWhole, Image, IsIgnored, Replays, header, pages_after}
 pub use Rattle.argon2_store.specs.Opening.{AreUnharmed, FoundIn, HoldsNames, IsAfterOpens, IsTableOf, IsUnstarted, LeavesNames, MayHave, StandsFor, IsDamaged, IsOfDamage, IsOfPair, ListsOne}
-pub use Rattle.argon2_rows.specs.Table.{Changes, HasFailed, HasRows, HoldsTable, IsUnwritten, IsHonest, IsLong, IsOpen, CrashLeaves, StaysQuiet, account, AddsNames, Finishes, Writes, catalog, IsDue, IsTold}
+pub use Rattle.argon2_rows.specs.Table.{Changes, HasFailed, HasRows, HoldsTable, IsUnwritten, IsHonest, IsLong, IsOpen, CrashLeaves, StaysQuiet, account, AddsNames, Finishes, Writes, catalog, IsTold}
 pub use Rattle.argon2_store.specs.declared.account_file.AccountFile.{AccountFile}
 pub use Rattle.argon2_store.specs.declared.error.FileError.{FileError}
 pub use Rattle.argon2_rows.specs.Names.{AddsAll, IsFirstTaken, Texts, changed, entry_of}

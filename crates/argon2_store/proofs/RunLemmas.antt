@@ -16,20 +16,13 @@ run_then : (first mid last : Texts) (newer older : List FileEvent) → AreMade f
 run_then first mid last [] older earlier later = rw later earlier
 run_then first mid last (event ∷ newer) older earlier later = (later.0, run_then _ mid later.0 newer _ earlier later.1, later.2)
 
--- the text of a name after one more edit
-text_then : (edit : Edit) (edits : List Edit) (names after : Texts) (name : List ℕ)
-    → ((mid : Texts) → names_after edits mid ≡ Ok after → get after name ≡ left_by name edits (get mid name))
-    → names_after (edit ∷ edits) names ≡ Ok after → get after name ≡ left_by name (edit ∷ edits) (get names name)
-text_then edit edits names after name later is =
-    let rest = later (changed names (name_of edit) (gives edit (get names (name_of edit)))) in
-    let at = get-at names (name_of edit) name (gives edit (get names (name_of edit))) in
-    let test = bytes_eq-Decides name (name_of edit) in grind arith
-
 texts_after : (edits : List Edit) (names after : Texts) → names_after edits names ≡ Ok after → (name : List ℕ)
     → get after name ≡ left_by name edits (get names name)
 texts_after [] names after is name = cc
 texts_after (edit ∷ edits) names after is name =
-    text_then edit edits names after name (λ mid all. texts_after edits mid after all name) is
+    let given = gives edit (get names (name_of edit)) in
+    grind (arith, texts_after edits (changed names (name_of edit) given) after, get-at names (name_of edit) name given,
+        bytes_eq-Decides name (name_of edit))
 
 -- the text of each name is what its edits left
 pub texts_of_events : (events : List FileEvent) (names : Texts) → AreMade empty events names → (name : List ℕ)

@@ -170,10 +170,7 @@ fn number_at(head: &[u8; 32], at: usize) -> u32
 fn is_signed(head: &[u8; 32]) -> bool
     ensures { IsTrue result ↔ IsSigned head.now }
 {
-    if head[0] != MAGIC || head[1] != 0x7f || head[2] != 0x06 {
-        return false;
-    }
-    if head[3] != 0x82 && head[3] != 0x83 {
+    if head[..3] != [MAGIC, 0x7f, 0x06] || head[3] / 2 != 0x41 {
         return false;
     }
     let sum = checksum_of(head[3] == 0x83, (0, 0), &head[..24]);

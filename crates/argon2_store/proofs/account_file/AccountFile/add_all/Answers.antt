@@ -1,10 +1,10 @@
 use Rattle.argon2_store.proofs.Imports.{ap, arith, refl, Ok, Err, database_of, entry_of, map, leaves_quiet}
-use Rattle.argon2_store.proofs.FileLemmas.{adds_names, ends_with, fails, shut_out, taken_made, unread}
+use Rattle.argon2_store.proofs.FileLemmas.{adds_names, cannot_serve, ends_with, shut_out, taken_made, unread}
 use Rattle.argon2_store.proofs.account_file.AccountFile.add_all.Goals as goal
 
 pub returns-then-is_closed-clause-call : goal.returns-then-is_closed-clause-call
-returns-then-is_closed-clause-call g c before has =
-    (before, fails (shut_out g.met.S.Store.settled _ c.is_closed.ensures c.if-is_closed.true before has))
+returns-then-is_closed-clause-call g c =
+    cannot_serve (shut_out g.met.S.Store.settled _ c.is_closed.ensures c.if-is_closed.true) refl
 
 pub returns-in-Ok-clause-call : goal.returns-in-Ok-clause-call
 returns-in-Ok-clause-call g c before has =
