@@ -1,10 +1,8 @@
 -- Names to which several are added.
 use Rattle.argon2_rows.proofs.Imports.{◌≡◌, ℕ, List, [], ◌∷◌, ◌++◌, false, Some, Result, Ok, Err, refl, Io, arith, inl, map, Bor, Any, StoreError, Ghosts, Texts, AddsAll, AddsEach, AddsNames, IsAdded}
 use Rattle.argon2_rows.proofs.Imports.{WritesAll, IsPermutation, entry_of, Changes, bytes_eq-Decides, true, HasBegun, IsKept, Writes, written_of, HasRows, HasFailed, CrashLeaves, ◌⊎◌, IsHonest, IsLong, IsOpen, StaysQuiet}
-use Rattle.argon2_rows.proofs.Imports.{StoredText}
+use Rattle.argon2_rows.proofs.Imports.{StoredText, AddError, Store, Taken}
 use Rattle.std.proofs.lemmas.Result.{on_ok_weaker}
-use Rattle.argon2_rows.specs.declared.table.AddError.{AddError}
-use Rattle.argon2_rows.specs.declared.table.AddError.TheVariants.{Store, Taken}
 use Rattle.std.proofs.lemmas.List.Sorted.{Contains-permutation, IsPermutation-map, IsPermutation-sym}
 use Rattle.sqlite_trees.proofs.ListLemmas.{along_permutation}
 use Rattle.argon2_rows.proofs.RowLemmas.{changed_apart, get-at, get-changed}

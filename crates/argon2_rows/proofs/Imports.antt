@@ -5,7 +5,6 @@ pub use Rattle.std.proofs.lemmas.Cmp.{tied_itself, alike_right}
 pub use Rattle.std.proofs.lemmas.List.{get_or-map, length-map, map_more, take-map, take_all, map-id}
 pub use Rattle.std.proofs.lemmas.Slice.Eq.{bytes_eq-Decides}
 pub use Rattle.std.proofs.KnownBytes.{Appends-kept, Appends-nil, Appends-trans}
-pub use Rattle.std.specs.Borrow.{Bor}
 pub use Rattle.std.specs.Cmp.Lexicographic.{nat_list_cmp_total, slice_cmp}
 pub use Rattle.std.specs.FinMap.{entries, entries-from_sorted, entries-insert, entries_sorted, find, from_sorted, get, get-entries, get-from_sorted, get-insert, get-remove, insert, is_sorted}
 pub use Rattle.std.specs.FinMap.{nat_cmp-IsAntisymmetric, put, remove, same_entries_map, same_map, slice_cmp-IsAntisymmetric}
@@ -13,19 +12,14 @@ pub use Rattle.std.specs.List.{AllByRecursion, flat_map}
 pub use Rattle.std.specs.Ordering.{eq_by_cmp, nat_cmp, ordering_then, is_gt}
 pub use Rattle.std.specs.Prelude.{All, Any, IfErr, IfSome, IsErrAnd, IsSomeAnd, MatchResult, OnOk, ⊤}
 pub use Rattle.std.specs.Str.{bytes_eq, chars}
-pub use Rattle.std.specs.Io.KnownBytes.{Keeps, Appends}
 pub use Rattle.sqlite_value.specs.Keys.{entry_cmp, plain, prefix_cmp}
 pub use Rattle.sqlite_value.specs.Order.{Row, column, number, row_cmp}
 pub use Rattle.sqlite_trees.specs.Tree.{IsIndex, Trees, from_key, insert_entry, order_of, remove_entry, sought}
-pub use Rattle.sqlite_trees.specs.View.{Advances, IsFailure, IsOrdered, IsStorable, KeepsSchema, OnlyWrites, View, is_int, with_cursor, HasCause, Tells, doubt}
-pub use Rattle.sqlite_trees.specs.declared.error.StoreError.{StoreError}
-pub use Rattle.sqlite_trees.specs.declared.error.StoreError.TheVariants.{Io}
+pub use Rattle.sqlite_trees.specs.View.{Advances, IsOrdered, IsStorable, KeepsSchema, View, is_int, with_cursor, HasCause, doubt}
 pub use Rattle.sqlite_trees.specs.declared.store.Direction.TheVariants.{Forward}
-pub use Rattle.sqlite_trees.specs.declared.store.Shape.TheVariants.{Index}
-pub use Rattle.sqlite_trees.specs.declared.store.Store.{Ghosts}
 pub use Rattle.sqlite_store.proofs.RowLemmas.{from_key-none}
-pub use Rattle.argon2_rows.specs.Names.{AddsAll, AddsEach, IsAdded, Texts, changed, entry_of}
-pub use Rattle.argon2_rows.specs.Rows.{AreLines, AreTexts, AreLinesOf, AreWritten, IsLineOf, HasNoneAfter, IsAccount, IsAfterAll, IsFoundAs, breaks_line, row_of, rows_of, shown_char}
+pub use Rattle.argon2_rows.specs.Names.{AddsAll, AddsEach, IsAdded, Texts, changed, entry_of, Bor, StoredText, AddError, Store, Taken}
+pub use Rattle.argon2_rows.specs.Rows.{AreLines, AreTexts, AreLinesOf, AreWritten, IsLineOf, HasNoneAfter, IsAccount, IsAfterAll, IsFoundAs, breaks_line, row_of, rows_of, shown_char, Keeps}
+pub use Rattle.argon2_rows.specs.Rows.{Appends, Text, Written, Breaks, Failed}
 pub use Rattle.argon2_rows.specs.Table.{Changes, EndsRead, Finishes, HasBegun, HasFailed, HasRows, HasSome, IsUnwritten, IsHonest, IsKept, IsLong, IsOpen, CrashLeaves, Sees, StaysQuiet, AddsNames, Writes}
-pub use Rattle.argon2_rows.specs.Table.{WritesAll, done_of, written_of, IsDue, IsTold}
-pub use Rattle.argon2_rows.specs.declared.text.StoredText.{StoredText}
+pub use Rattle.argon2_rows.specs.Table.{WritesAll, done_of, written_of, IsDue, IsTold, StoreError, Io, Index, Ghosts, MoreFaults}

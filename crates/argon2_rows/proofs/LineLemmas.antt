@@ -1,12 +1,10 @@
 -- Rows of names, one by one, and their lines.
 use Rattle.argon2_rows.proofs.Imports.{AllByRecursion, get-entries, arith, ap, refl, ◌≡◌, ℕ, List, [], ◌∷◌, map, Option, Some, None, IsSomeAnd, ◌∙◌, Texts, AreTexts, IsUtf8, entries, Row, plain, Index, Forward, order_of}
-use Rattle.argon2_rows.proofs.Imports.{sought, Advances, with_cursor, IsLineOf, breaks_line, AreLinesOf, AreWritten, Result, Ok, Err, MatchResult, row_of, rows_of, true, false}
-use Rattle.argon2_rows.proofs.Imports.{Appends-kept, Appends-nil, Appends-trans, Keeps, from_key-none}
+use Rattle.argon2_rows.proofs.Imports.{sought, Advances, with_cursor, IsLineOf, breaks_line, AreLinesOf, AreWritten, Result, Ok, Err, MatchResult, row_of, rows_of, true, false, Written}
+use Rattle.argon2_rows.proofs.Imports.{Appends-kept, Appends-nil, Appends-trans, Keeps, from_key-none, Breaks, Failed}
 use Rattle.std.proofs.lemmas.List.Elements.{All-cons, All-nil}
 use Rattle.std.specs.declared.io.Error.{Error}
 use Rattle.argon2_rows.specs.declared.view.View.{View}
-use Rattle.argon2_rows.specs.declared.view.Written.{Written}
-use Rattle.argon2_rows.specs.declared.view.Written.TheVariants.{Breaks, Failed}
 use Rattle.argon2_rows.proofs.RowLemmas.{each_name}
 use Rattle.sqlite_trees.specs.View.{View as Shown}
 use Rattle.argon2_rows.specs.declared.view.Written.TheVariants as written

@@ -1,10 +1,9 @@
 -- What the rows of a table are after each step of a change.
 use Rattle.argon2_rows.proofs.Imports.{◌≡◌, Result, Ok, Err, false, refl, IsTrue, arith, inl, inr, IfErr, IsErrAnd, MatchResult, OnOk, plain, StoreError, Index, Ghosts, Trees, View}
 use Rattle.argon2_rows.proofs.Imports.{KeepsSchema, Texts, AreTexts, Changes, EndsRead, Finishes, HasBegun, HasRows, HasSome, IsHonest, IsKept, IsOpen, CrashLeaves, Sees, StaysQuiet}
-use Rattle.argon2_rows.proofs.Imports.{Writes, done_of, IsDue, IsTold, HasCause}
+use Rattle.argon2_rows.proofs.Imports.{Writes, done_of, IsDue, IsTold, HasCause, MoreFaults}
 use Rattle.std.specs.Coded.{Coded-set}
 use Rattle.std.proofs.Math.Logic.{∥∥₁_elim, ∥∥₁_map}
-use Rattle.sqlite_disk.specs.Disk.{MoreFaults}
 use Rattle.sqlite_trees.specs.contracts.store.Shape.{the_row}
 
 -- ---- answers

@@ -1,12 +1,12 @@
 -- Names with their texts, and several that are added, one after the other.
 use Rattle.std.specs.Prelude.{◌≡◌, ℕ, ◌<◌, List, [], ◌∷◌, length, slice_index_or, take, Bool, true, false, Option, Some, None, IsSome, Result, Ok, Err, ⊤}
-use Rattle.std.specs.Borrow.{Bor}
-use Rattle.std.specs.Cmp.Lexicographic.{slice_cmp}
-use Rattle.std.specs.FinMap.{FinMap, get, insert, remove}
-use Rattle.std.specs.Ordering.{nat_cmp}
-use Rattle.argon2_rows.specs.declared.table.AddError.{AddError}
-use Rattle.argon2_rows.specs.declared.table.AddError.TheVariants.{Store, Taken}
-use Rattle.argon2_rows.specs.declared.text.StoredText.{StoredText}
+pub use Rattle.std.specs.Borrow.{Bor}
+pub use Rattle.std.specs.Cmp.Lexicographic.{slice_cmp}
+pub use Rattle.std.specs.FinMap.{FinMap, entries, get, insert, remove}
+pub use Rattle.std.specs.Ordering.{nat_cmp}
+pub use Rattle.argon2_rows.specs.declared.table.AddError.{AddError}
+pub use Rattle.argon2_rows.specs.declared.table.AddError.TheVariants.{Store, Taken}
+pub use Rattle.argon2_rows.specs.declared.text.StoredText.{StoredText}
 
 -- texts by the bytes of their names
 abbrev pub Texts : Type 0

@@ -1,22 +1,19 @@
 -- How a tree of rows holds names with their texts.
 use Rattle.std.specs.Prelude.{◌≡◌, ◌==◌, ◌||◌, ℕ, ◌+◌, ◌/◌, ◌%◌, nat_lt, if◌then◌else◌, Bool, true, false, List, [], ◌∷◌, ◌++◌, map, All, Option, Some, None, IsUtf8, ⊤}
-use Rattle.std.specs.Cmp.Lexicographic.{slice_cmp}
-use Rattle.std.specs.FinMap.{entries, get}
-use Rattle.std.specs.Io.KnownBytes.{Appends, Keeps}
+pub use Rattle.std.specs.Io.KnownBytes.{Appends, Keeps}
 use Rattle.std.specs.Char.{encode_utf8, is_control}
-use Rattle.std.specs.List.{flat_map, list_any}
+pub use Rattle.std.specs.List.{flat_map, list_any}
 use Rattle.std.specs.Str.{chars}
-use Rattle.std.specs.Ordering.{nat_cmp}
-use Rattle.std.specs.declared.cmp.Ordering.TheVariants.{Less}
-use Rattle.sqlite_value.specs.declared.value.Value.TheVariants.{Text}
-use Rattle.sqlite_value.specs.Order.{Row}
+pub use Rattle.std.specs.declared.cmp.Ordering.TheVariants.{Less}
+pub use Rattle.sqlite_value.specs.declared.value.Value.TheVariants.{Text}
+pub use Rattle.sqlite_value.specs.Order.{Row}
 use Rattle.argon2_rows.specs.Locks.{IsLine}
-use Rattle.argon2_rows.specs.Names.{Texts as Named}
+use Rattle.argon2_rows.specs.Names.{Texts as Named, slice_cmp, entries, get, nat_cmp}
 use Rattle.argon2_rows.specs.declared.view.View.{View}
 use Rattle.argon2_rows.specs.declared.view.View.TheVariants.{Names, Texts}
-use Rattle.argon2_rows.specs.declared.view.Written.{Written}
+pub use Rattle.argon2_rows.specs.declared.view.Written.{Written}
 use Rattle.argon2_rows.specs.declared.view.Written.TheVariants as written
-use Rattle.argon2_rows.specs.declared.view.Written.TheVariants.{Breaks, Failed}
+pub use Rattle.argon2_rows.specs.declared.view.Written.TheVariants.{Breaks, Failed}
 
 -- the row of a name with its text
 abbrev pub row_of : List ℕ × List ℕ → Row

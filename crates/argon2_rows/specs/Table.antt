@@ -1,22 +1,18 @@
 -- What a table of names shows, and what a change of it leaves in the store.
 use Rattle.std.specs.Prelude.{◌≡◌, ◌⊎◌, ℕ, ◌^◌, ◌+◌, ◌<◌, List, [], ◌∷◌, length, codes, false, Result, Ok, Err, IsTrue, IfErr, IsOkAnd, OnErr, OnOk, MatchResult, ◌≤◌, Any}
-use Rattle.sqlite_disk.specs.Disk.{MoreFaults}
-use Rattle.sqlite_value.specs.Keys.{plain}
-use Rattle.sqlite_value.specs.Order.{Row}
-use Rattle.sqlite_trees.specs.declared.error.StoreError.{StoreError}
-use Rattle.sqlite_trees.specs.declared.error.StoreError.TheVariants.{Io}
-use Rattle.sqlite_trees.specs.declared.store.Shape.TheVariants.{Index}
-use Rattle.sqlite_trees.specs.declared.store.Store.{Ghosts}
+pub use Rattle.sqlite_disk.specs.Disk.{MoreFaults}
+pub use Rattle.sqlite_value.specs.Keys.{plain}
+pub use Rattle.sqlite_trees.specs.declared.error.StoreError.{StoreError}
+pub use Rattle.sqlite_trees.specs.declared.error.StoreError.TheVariants.{Io}
+pub use Rattle.sqlite_trees.specs.declared.store.Shape.TheVariants.{Index}
+pub use Rattle.sqlite_trees.specs.declared.store.Store.{Ghosts}
 use Rattle.sqlite_trees.specs.Objects.{catalog_tree}
-use Rattle.sqlite_trees.specs.Tree.{Trees}
+pub use Rattle.sqlite_trees.specs.Tree.{Trees}
 use Rattle.sqlite_trees.specs.View.{View, IsClean, IsQuiet, HasCause, Tells, doubt}
 use Rattle.sqlite_store.specs.Listing.{listed_from}
 use Rattle.sqlite_store.specs.declared.catalog.Wanted.{Wanted}
-use Rattle.sqlite_value.specs.declared.value.Value.TheVariants.{Text}
-use Rattle.argon2_rows.specs.declared.table.AddError.{AddError}
-use Rattle.argon2_rows.specs.declared.table.AddError.TheVariants.{Store, Taken}
-use Rattle.argon2_rows.specs.Names.{AddsAll, IsFirstTaken, Texts}
-use Rattle.argon2_rows.specs.Rows.{AreTexts, rows_of}
+use Rattle.argon2_rows.specs.Names.{AddsAll, IsFirstTaken, Texts, AddError, Store, Taken}
+use Rattle.argon2_rows.specs.Rows.{AreTexts, rows_of, Row, Text}
 
 -- the table of the accounts, as `sqlite_schema` lists it
 abbrev pub account : Wanted

@@ -1,18 +1,13 @@
 //! Reading the rows.
 
 ghost use Rattle.std.specs.Prelude.{◌≡◌, ◌<◌, ◌↔◌, [], ◌∷◌, ℕ, List, false, string_bytes, IsSomeAnd, IsTrue, IsUtf8, IfErr, IfOk, IfSome, MatchResult, OnOk};
-ghost use Rattle.std.specs.Io.KnownBytes.{Appends};
 ghost use Rattle.std.specs.Option.{option_map};
-ghost use Rattle.std.specs.FinMap.{get};
-ghost use Rattle.sqlite_value.specs.Keys.{plain};
-ghost use Rattle.sqlite_value.specs.declared.value.Value.TheVariants.{Text};
 ghost use Rattle.sqlite_trees.specs.View.{IsFailure, KeepsSchema};
 ghost use Rattle.sqlite_trees.specs.declared.error.StoreError.TheVariants.{OutOfMemory};
-ghost use Rattle.sqlite_trees.specs.declared.store.Shape.TheVariants.{Index};
-ghost use Rattle.argon2_rows.specs.Names.{Texts as Named};
-ghost use Rattle.argon2_rows.specs.Rows.{AreLines, AreTexts, AreWritten, IsAccount, IsFoundAs, IsLineOf, digit, line, row_of, rows_of, shown, shown_char};
+ghost use Rattle.argon2_rows.specs.Names.{Texts as Named, get};
+ghost use Rattle.argon2_rows.specs.Rows.{AreLines, AreTexts, AreWritten, IsAccount, IsFoundAs, IsLineOf, digit, line, row_of, rows_of, shown, shown_char, Appends, Text};
 ghost use Rattle.argon2_rows.specs.declared.view.Written.TheVariants.{All, Failed};
-ghost use Rattle.argon2_rows.specs.Table.{HasRows, IsDue, IsUnwritten, IsHonest, IsOpen, Sees, StaysQuiet, Writes, done_of};
+ghost use Rattle.argon2_rows.specs.Table.{HasRows, IsDue, IsUnwritten, IsHonest, IsOpen, Sees, StaysQuiet, Writes, done_of, plain, Index};
 
 use crate::view::{View, Written};
 use sqlite_trees::error::StoreError;

@@ -2,16 +2,10 @@
 #![tactic(auto, using(crate::proofs::TableLemmas::kept))]
 
 ghost use Rattle.std.specs.Prelude.{◌≡◌, Any, None, Some, IsTrue, IsUtf8, IfOk, map};
-ghost use Rattle.std.specs.Cmp.Lexicographic.{slice_cmp};
-ghost use Rattle.std.specs.FinMap.{get};
-ghost use Rattle.std.specs.Ordering.{nat_cmp};
-ghost use Rattle.std.specs.declared.cmp.Ordering.TheVariants.{Less};
-ghost use Rattle.sqlite_value.specs.Keys.{plain};
 ghost use Rattle.sqlite_trees.specs.View.{KeepsSchema};
-ghost use Rattle.sqlite_trees.specs.declared.store.Shape.TheVariants.{Index};
-ghost use Rattle.argon2_rows.specs.Names.{AddsEach, IsAdded, Texts, changed, entry_of};
-ghost use Rattle.argon2_rows.specs.Rows.{AreTexts, HasNoneAfter, IsAfterAll};
-ghost use Rattle.argon2_rows.specs.Table.{EndsRead, Finishes, HasBegun, IsHonest, IsKept, IsLong, Sees, StaysQuiet, Writes, done_of, written_of};
+ghost use Rattle.argon2_rows.specs.Names.{AddsEach, IsAdded, Texts, changed, entry_of, slice_cmp, get, nat_cmp};
+ghost use Rattle.argon2_rows.specs.Rows.{AreTexts, HasNoneAfter, IsAfterAll, Less};
+ghost use Rattle.argon2_rows.specs.Table.{EndsRead, Finishes, HasBegun, IsHonest, IsKept, IsLong, Sees, StaysQuiet, Writes, done_of, written_of, plain, Index};
 
 use crate::rows::{ACCOUNTS, find, lay};
 use crate::text::StoredText;
