@@ -6,9 +6,9 @@ pub use Rattle.sqlite_trees.specs.declared.error.StoreError.{StoreError}
 pub use Rattle.sqlite_trees.specs.declared.error.StoreError.TheVariants.{Io}
 pub use Rattle.sqlite_trees.specs.declared.store.Shape.TheVariants.{Index}
 pub use Rattle.sqlite_trees.specs.declared.store.Store.{Ghosts}
-use Rattle.sqlite_trees.specs.Objects.{catalog_tree}
+pub use Rattle.sqlite_trees.specs.Objects.{catalog_tree}
 pub use Rattle.sqlite_trees.specs.Tree.{Trees}
-use Rattle.sqlite_trees.specs.View.{View, IsClean, IsQuiet, HasCause, Tells, doubt}
+pub use Rattle.sqlite_trees.specs.View.{View, IsClean, IsQuiet, HasCause, Tells, doubt}
 use Rattle.sqlite_store.specs.Listing.{listed_from}
 use Rattle.sqlite_store.specs.declared.catalog.Wanted.{Wanted}
 use Rattle.argon2_rows.specs.Names.{AddsAll, IsFirstTaken, Texts, AddError, Store, Taken}
