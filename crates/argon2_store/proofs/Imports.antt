@@ -13,7 +13,6 @@ pub use Rattle.std.specs.List.{flat_map, range_with_len}
 pub use Rattle.std.specs.Option.{option_copied, option_map}
 pub use Rattle.std.specs.Prelude.{Any, IfErr, IfOk, IfSome, IsSome, IsErrAnd, IsSomeAnd, OnOk, String}
 pub use Rattle.sqlite_pool.proofs.StateLemmas.{clean_if_left, clean_is, size_is_allowed}
-pub use Rattle.sqlite_pool.specs.Opening.{IsBlankFile}
 pub use Rattle.sqlite_pool.specs.Stored.{Recovers, RecoversAs, reserved, sealed, stored_size}
 pub use Rattle.sqlite_pool.specs.StoredLaws.{RecoversAs-from, length-sealed, readable, recovers_once, trimmed_whole}
 pub use Rattle.sqlite_store.specs.FileStore.{files, reading, recovers, schema_in, schema_of, state, view}
@@ -23,29 +22,19 @@ pub use Rattle.sqlite_store.specs.Saved.{kept_schema}
 pub use Rattle.sqlite_store.specs.Unopened.{files_of, image, state_of, wanted_by}
 pub use Rattle.sqlite_store.specs.declared.store.FileStore.{FileStore}
 pub use Rattle.sqlite_trees.proofs.Doubt.{clean_of, no_doubt}
-pub use Rattle.sqlite_trees.specs.Objects.{catalog_tree}
-pub use Rattle.sqlite_trees.specs.Tree.{Trees}
-pub use Rattle.sqlite_trees.specs.View.{IsClean}
-pub use Rattle.sqlite_trees.specs.declared.error.StoreError.{StoreError}
-pub use Rattle.sqlite_trees.specs.declared.store.Shape.TheVariants.{Index, Table}
-pub use Rattle.sqlite_trees.specs.declared.store.Store.{Ghosts}
-pub use Rattle.sqlite_value.specs.Order.{Row}
 pub use Rattle.sqlite_wal.proofs.CleanLemmas.{halves}
 pub use Rattle.sqlite_wal.proofs.LogLemmas.{SeenMayStay}
 pub use Rattle.sqlite_wal.proofs.PartLemmas.{held_is_part, part_within, slice_index-part}
-pub use Rattle.sqlite_wal.specs.Files.{outcomes, seen_image}
 pub use Rattle.sqlite_wal.specs.Format.{checksum, is_big, part}
 pub use Rattle.sqlite_wal.specs.Recovery.{AreWhole, Image, IsIgnored, Replays, header, pages_after}
 pub use Rattle.argon2_store.specs.Opening.{AreUnharmed, FoundIn, HoldsNames, IsAfterOpens, IsTableOf, IsUnstarted, LeavesNames, MayHave, StandsFor, IsDamaged, IsOfDamage, IsOfPair, ListsOne}
+pub use Rattle.argon2_store.specs.Opening.{IsBlankFile, Row, Table, outcomes, seen_image, AreClean, OnlyReads, PageMap, Wanted, IsSoundFile}
 pub use Rattle.argon2_rows.specs.Table.{Changes, HasFailed, HasRows, HoldsTable, IsUnwritten, IsHonest, IsLong, IsOpen, CrashLeaves, StaysQuiet, account, AddsNames, Finishes, Writes, catalog, IsTold}
-pub use Rattle.argon2_store.specs.declared.account_file.AccountFile.{AccountFile}
-pub use Rattle.argon2_store.specs.declared.error.FileError.{FileError}
+pub use Rattle.argon2_rows.specs.Table.{StoreError, Index, Ghosts, Trees, catalog_tree, IsClean, plain}
 pub use Rattle.argon2_rows.specs.Names.{AddsAll, IsFirstTaken, Texts, changed, entry_of}
 pub use Rattle.argon2_rows.proofs.RowLemmas.{rows_of-once, get-at, changed_back, texts_changed}
 pub use Rattle.argon2_rows.proofs.TableLemmas.{Settled, Keeps, err_is, leaves_quiet, on_all, quiet_itself, has_same, some_kept, changes_of, has_either, reads_keep, shape_of, taken_back}
-pub use Rattle.sqlite_wal.specs.Reads.{AreClean, OnlyReads}
-pub use Rattle.argon2_store.specs.AccountFile.{Answers, IsClosed, IsErrorAt, Makes, Serves, Stays, error_of, database_of, HasNames, IsReady, HasCause, HasFailedBy, NamesStay}
+pub use Rattle.argon2_store.specs.AccountFile.{Answers, IsClosed, IsErrorAt, Makes, Serves, Stays, error_of, database_of, HasNames, IsReady, HasCause, HasFailedBy, NamesStay, AccountFile}
 pub use Rattle.argon2_store.specs.Edits.{Edit, IsTooLong, adding, additions, gives, left_by, name_of, names_after, refusal}
-pub use Rattle.argon2_store.specs.Errors.{call_error, is_refusal, read_of, IsOfDatabase, lines_by, read_by}
+pub use Rattle.argon2_store.specs.Errors.{call_error, is_refusal, read_of, IsOfDatabase, lines_by, read_by, FileError, Closed, NameTaken, OutOfMemory, OpenError}
 pub use Rattle.argon2_store.specs.Runs.{AreEventsOf, AreMade, Did, Does, EndsRun, FileCall, FileEvent, FileRun, IsFoundAfter, IsLate, IsLateOf, IsShutOut, events_of, makes, over_file, reads, text_by}
-pub use Rattle.argon2_store.specs.declared.error.FileError.TheVariants.{Closed, NameTaken, OutOfMemory}

@@ -1,11 +1,9 @@
 -- What an open finds after opens that failed, and what the next one finds then.
-use Rattle.argon2_store.proofs.Imports.{◌≡◌, ℕ, List, [], ◌∷◌, inl, inr, refl, sym, ap, ap₂, subst, subst₂, ◌∙◌, arith, ∥∥₁_elim, ∥∥₁_map, Row, outcomes, seen_image}
-use Rattle.argon2_store.proofs.Imports.{AreWhole, Image, IsBlankFile, Recovers, RecoversAs, catalog_tree, Trees, state, FileStore, FoundIn, IsUnstarted, MayHave}
+use Rattle.argon2_store.proofs.Imports.{◌≡◌, ℕ, List, [], ◌∷◌, inl, inr, refl, sym, ap, ap₂, subst, subst₂, ◌∙◌, arith, ∥∥₁_elim, ∥∥₁_map, Row, outcomes, seen_image, PageMap, plain, Wanted}
+use Rattle.argon2_store.proofs.Imports.{AreWhole, Image, IsBlankFile, Recovers, RecoversAs, catalog_tree, Trees, state, FileStore, FoundIn, IsUnstarted, MayHave, IsSoundFile}
 use Rattle.argon2_store.proofs.Imports.{StandsFor, account, ◌≤◌, length, slice_index, unwrap_or, Some, cases_eq, part, IsIgnored, Replays, pages_after}
 use Rattle.argon2_store.proofs.Imports.{part_within, slice_index-part, range_with_len, length-map, reserved, sealed, stored_size, length-sealed, recovers_once}
 use Rattle.argon2_store.proofs.Imports.{Index, recovers, same_listing, Texts, HoldsNames, IsAfterOpens, LeavesNames, HoldsTable, Table, catalog, rows_of-once}
-use Rattle.sqlite_pages.specs.PageMap.{PageMap}
-use Rattle.sqlite_value.specs.Keys.{plain}
 use Rattle.sqlite_disk.specs.declared.Disk.{Ghosts}
 use Rattle.sqlite_store.specs.Listing.{all_trees, all_reals, all_shapes, listed_from, file_trees}
 use Rattle.sqlite_wal.proofs.RecoveryLemmas.{recovers_once as raw_once, replays_once}
@@ -15,7 +13,7 @@ use Rattle.std.proofs.lemmas.List.FromFn.{length-range_with_len}
 use Rattle.std.specs.Coded.{Coded-set, coded_list}
 use mathlib.Core.HLevel.{⊥_prop}
 use base.Stored.{Gv, gcons, gnil, gnum, num}
-use Rattle.sqlite_pool.specs.File.{in_use, unlocked, IsSoundFile}
+use Rattle.sqlite_pool.specs.File.{in_use, unlocked}
 use Rattle.sqlite_pool.specs.FreeList.{live}
 use Rattle.sqlite_pool.proofs.PoolLemmas.{none_of}
 use Rattle.sqlite_pool.proofs.ProbeLemmas.{first_byte, not_blank, reserved_word, size_by_file, size_by_log}
@@ -23,7 +21,6 @@ use Rattle.sqlite_pool.proofs.ResealLemmas.{adopts_of}
 use Rattle.sqlite_btree.proofs.StoredLemmas.{stored_root_live}
 use Rattle.sqlite_store.specs.Catalog.{describes, is_about, root_in}
 use Rattle.sqlite_store.specs.Db.{roots_of, trees_in, rows_at, IsFile}
-use Rattle.sqlite_store.specs.declared.catalog.Wanted.{Wanted}
 use Rattle.argon2_store.proofs.OpenLemmas.{left_table, stands_for}
 use Rattle.sqlite_wal.specs.Recovery as raw
 use Rattle.sqlite_value.specs.contracts.row.Row as row

@@ -1,10 +1,9 @@
 -- A store that is ready, and what an open that fails leaves.
-use Rattle.argon2_store.proofs.Imports.{◌≡◌, ℕ, Bool, List, [], ◌∷◌, inl, inr, refl, sym, ap, subst, subst₂, ◌∙◌, arith, IsTrue, ◌↔◌, ∥∥₁_elim, ∥∥₁_map, Row}
+use Rattle.argon2_store.proofs.Imports.{◌≡◌, ℕ, Bool, List, [], ◌∷◌, inl, inr, refl, sym, ap, subst, subst₂, ◌∙◌, arith, IsTrue, ◌↔◌, ∥∥₁_elim, ∥∥₁_map, Row, IsSoundFile, OpenError}
 use Rattle.argon2_store.proofs.Imports.{outcomes, seen_image, Image, IsBlankFile, RecoversAs-from, readable, trimmed_whole, clean_if_left, clean_is, size_is_allowed}
 use Rattle.argon2_store.proofs.Imports.{clean_of, no_doubt, catalog_tree, Trees, IsClean, not_broken, settled_at, SeenMayStay, files, reading, schema_in, schema_of}
 use Rattle.argon2_store.proofs.Imports.{state, view, catalog_rows, files_of, image, state_of, wanted_by, FileStore, AreUnharmed, FoundIn, IsTableOf, IsUnstarted}
 use Rattle.argon2_store.proofs.Imports.{MayHave, StandsFor, account, IsUnwritten, recovers, AreClean, OnlyReads, IsOfDatabase, IsDamaged, IsOfDamage, IsOfPair}
-use Rattle.sqlite_pool.specs.File.{IsSoundFile}
 use Rattle.sqlite_disk.specs.declared.Disk.{Ghosts}
 use Rattle.sqlite_pool.specs.Pool.{files as pool_files, state as pool_state}
 use Rattle.sqlite_store.proofs.BuildLemmas.{new_is_empty}
@@ -15,7 +14,6 @@ use Rattle.sqlite_store.specs.Listing.{all_shapes, all_trees, listed_from}
 use Rattle.sqlite_store.specs.declared.store.open.Unopened.{Unopened}
 use Rattle.argon2_rows.specs.Table.{catalog}
 use Rattle.sqlite_store.specs.Unopened as below
-use Rattle.argon2_store.specs.declared.error.OpenError.{OpenError}
 
 -- ---- a store that is ready
 

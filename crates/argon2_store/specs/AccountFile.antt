@@ -1,23 +1,15 @@
 -- What callers see of accounts in a file, and what each call does.
 use Rattle.std.specs.Prelude.{◌≡◌, ◌⊎◌, ℕ, List, false, Any, Option, Some, None, IfSome, Result, Ok, Err, IfErr, IsErrAnd, IsTrue, ⊤, length}
-use Rattle.sqlite_trees.specs.declared.error.StoreError.{StoreError}
 use Rattle.sqlite_trees.specs.declared.error.StoreError.TheVariants as below
-use Rattle.sqlite_trees.specs.declared.store.Store.{Ghosts}
-use Rattle.sqlite_wal.specs.Recovery.{Image}
 use Rattle.argon2_rows.specs.Names.{IsFirstTaken, Texts}
 use Rattle.argon2_rows.specs.Rows.{AreLines, AreWritten}
-use Rattle.argon2_rows.specs.Table.{HasFailed, HasRows, IsHonest, IsOpen, IsTold, CrashLeaves, StaysQuiet}
+use Rattle.argon2_rows.specs.Table.{HasFailed, HasRows, IsHonest, IsOpen, IsTold, CrashLeaves, StaysQuiet, StoreError, Ghosts}
 use Rattle.argon2_rows.specs.declared.view.View.{View}
 use Rattle.argon2_rows.specs.declared.view.Written.TheVariants as written
-use Rattle.argon2_rows.specs.declared.view.Written.TheVariants.{All}
 use Rattle.argon2_store.specs.Edits.{Edit, IsTooLong, names_after}
-use Rattle.argon2_store.specs.Errors.{is_refusal}
-use Rattle.argon2_store.specs.Opening.{HoldsNames, IsDamaged}
-use Rattle.argon2_store.specs.declared.account_file.AccountFile.{AccountFile}
-use Rattle.argon2_store.specs.declared.error.FileError.{FileError}
-use Rattle.argon2_store.specs.declared.error.LineError.{LineError}
-use Rattle.argon2_store.specs.declared.error.LineError.TheVariants.{Breaks}
-use Rattle.argon2_store.specs.declared.error.FileError.TheVariants.{NameTaken, Io, Damaged, Full, TooLong, Closed}
+use Rattle.argon2_store.specs.Errors.{is_refusal, FileError, LineError, Breaks, NameTaken, Io, Damaged, Full, TooLong, Closed}
+use Rattle.argon2_store.specs.Opening.{HoldsNames, IsDamaged, Image}
+pub use Rattle.argon2_store.specs.declared.account_file.AccountFile.{AccountFile}
 
 -- What a call answers that is to make these edits, and the names after it. An error leaves all names as they were, and a
 -- refusal is that of the first edit that is refused.
@@ -32,7 +24,7 @@ unindexed (Err e) = Err e.1
 
 -- what was written of the lines of names
 abbrev pub WritesLines : View → Texts → Option (List ℕ) → Option (List ℕ) → Result (Unit {0}) LineError → Type 0
-WritesLines view names old new (Ok x) = AreWritten view names old new All
+WritesLines view names old new (Ok x) = AreWritten view names old new written.All
 WritesLines view names old new (Err Breaks) = AreWritten view names old new written.Breaks
 WritesLines view names old new (Err _) = ⊤
 

@@ -1,14 +1,12 @@
 -- What calls make of names with their texts.
 use Rattle.std.specs.Prelude.{◌∷◌, ℕ, if◌then◌else◌, List, [], Option, Some, None, IsSomeAnd, Result, Ok, Err, map}
-use Rattle.std.specs.FinMap.{get}
-use Rattle.std.specs.Option.{option_map}
+pub use Rattle.std.specs.Option.{option_map}
 use Rattle.std.specs.Str.{bytes_eq}
 pub use Rattle.argon2_base.specs.PhcFields.{text_of}
 use Rattle.argon2_rows.specs.Locks.{is_locked, without_lock}
-use Rattle.argon2_rows.specs.Names.{Texts, changed}
+use Rattle.argon2_rows.specs.Names.{Texts, changed, get}
 use Rattle.argon2_rows.specs.Table.{IsLong}
-use Rattle.argon2_store.specs.declared.error.FileError.{FileError}
-use Rattle.argon2_store.specs.declared.error.FileError.TheVariants.{NameTaken, NameUnknown, Changed, Locked}
+use Rattle.argon2_store.specs.Errors.{FileError, NameTaken, NameUnknown, Changed, Locked}
 
 -- a change of the text of one name
 pub data Edit : Type 0 where

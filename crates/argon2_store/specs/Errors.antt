@@ -11,11 +11,11 @@ use Rattle.sqlite_wal.specs.declared.error.Error.TheVariants as log
 use Rattle.argon2_rows.specs.declared.view.Written.{Written}
 use Rattle.argon2_rows.specs.declared.view.Written.TheVariants as written
 use Rattle.argon2_rows.specs.declared.view.Written.TheVariants.{All, Failed}
-use Rattle.argon2_store.specs.declared.error.FileError.{FileError}
-use Rattle.argon2_store.specs.declared.error.FileError.TheVariants.{NameTaken, NameUnknown, Changed, Locked, OutOfMemory, Io, Damaged, Full, TooLong, Closed}
-use Rattle.argon2_store.specs.declared.error.LineError.{LineError}
-use Rattle.argon2_store.specs.declared.error.LineError.TheVariants.{Breaks, File, Write}
-use Rattle.argon2_store.specs.declared.error.OpenError.{OpenError}
+pub use Rattle.argon2_store.specs.declared.error.FileError.{FileError}
+pub use Rattle.argon2_store.specs.declared.error.FileError.TheVariants.{NameTaken, NameUnknown, Changed, Locked, OutOfMemory, Io, Damaged, Full, TooLong, Closed}
+pub use Rattle.argon2_store.specs.declared.error.LineError.{LineError}
+pub use Rattle.argon2_store.specs.declared.error.LineError.TheVariants.{Breaks, File, Write}
+pub use Rattle.argon2_store.specs.declared.error.OpenError.{OpenError}
 use Rattle.argon2_store.specs.declared.error.OpenError.TheVariants as no
 use Rattle.argon2_store.specs.declared.error.OpenError.TheVariants.{Path, Busy, HotJournal, NotAccounts}
 

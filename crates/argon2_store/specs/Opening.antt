@@ -1,26 +1,25 @@
 -- What opening a file finds.
 use Rattle.std.specs.Prelude.{◌≡◌, ◌⊎◌, ◌≤◌, ℕ, List, [], ◌∷◌, length, slice_index, IsTrue}
-use Rattle.sqlite_value.specs.Order.{Row}
+pub use Rattle.sqlite_value.specs.Order.{Row}
 use Rattle.sqlite_disk.specs.declared.Disk.{Ghosts}
 use Rattle.sqlite_disk.specs.Disk.{MoreFaults, Only}
-use Rattle.sqlite_pages.specs.PageMap.{PageMap}
-use Rattle.sqlite_pool.specs.Opening.{IsBlankFile}
-use Rattle.sqlite_pool.specs.Stored.{IsUnreadable, Recovers, RecoversAs, stored_size}
-use Rattle.sqlite_store.specs.Listing.{file_trees, listed_from}
-use Rattle.sqlite_store.specs.declared.catalog.Wanted.{Wanted}
-use Rattle.sqlite_store.specs.Db.{IsFile, rows_at}
-use Rattle.sqlite_pool.specs.File.{IsSoundFile, in_use}
-use Rattle.sqlite_trees.specs.declared.store.Shape.TheVariants.{Table}
-use Rattle.sqlite_wal.specs.Files.{outcomes, seen_image}
+pub use Rattle.sqlite_pages.specs.PageMap.{PageMap}
+pub use Rattle.sqlite_pool.specs.Opening.{IsBlankFile}
+pub use Rattle.sqlite_pool.specs.Stored.{IsUnreadable, Recovers, RecoversAs, stored_size}
+pub use Rattle.sqlite_store.specs.Listing.{file_trees, listed_from}
+pub use Rattle.sqlite_store.specs.declared.catalog.Wanted.{Wanted}
+pub use Rattle.sqlite_store.specs.Db.{IsFile, rows_at}
+pub use Rattle.sqlite_pool.specs.File.{IsSoundFile, in_use}
+pub use Rattle.sqlite_trees.specs.declared.store.Shape.TheVariants.{Table}
+pub use Rattle.sqlite_wal.specs.Files.{outcomes, seen_image}
 use Rattle.sqlite_wal.specs.PageSize.{IsPageSize}
-use Rattle.sqlite_wal.specs.Reads.{AreClean, OnlyReads}
-use Rattle.sqlite_wal.specs.Format.{IsSigned}
-use Rattle.sqlite_wal.specs.Recovery.{Image, header}
+pub use Rattle.sqlite_wal.specs.Reads.{AreClean, OnlyReads}
+pub use Rattle.sqlite_wal.specs.Format.{IsSigned}
+pub use Rattle.sqlite_wal.specs.Recovery.{Image, header}
 use Rattle.argon2_rows.specs.Names.{Texts}
 use Rattle.argon2_rows.specs.Rows.{AreLines, AreTexts, rows_of}
-use Rattle.argon2_rows.specs.Table.{account}
-use Rattle.argon2_store.specs.Errors.{IsOfDatabase}
-use Rattle.argon2_store.specs.declared.error.OpenError.{OpenError}
+pub use Rattle.argon2_rows.specs.Table.{account}
+use Rattle.argon2_store.specs.Errors.{IsOfDatabase, OpenError}
 use Rattle.argon2_store.specs.declared.error.OpenError.TheVariants as no
 
 -- there is no database yet, or one that lists no table

@@ -1,22 +1,16 @@
 -- Runs on an account file, each of which opens what the last one left.
 use Rattle.std.specs.Prelude.{◌≡◌, ◌⊎◌, ℕ, List, [], ◌∷◌, ◌++◌, false, if◌then◌else◌, Option, Some, None, Result, Ok, Err}
 use Rattle.std.specs.FinMap.{empty, get}
-use Rattle.std.specs.List.{flat_map}
 use Rattle.sqlite_disk.specs.declared.Disk as disk
 use Rattle.sqlite_store.specs.FileStore.{IsStep, NamesFault, blamed, faults, is_shielded, recovers, state, view}
 use Rattle.sqlite_store.specs.declared.store.FileStore.{FileStore}
-use Rattle.sqlite_trees.specs.declared.store.Store.{Ghosts}
-use Rattle.sqlite_wal.specs.Recovery.{Image}
 use Rattle.argon2_rows.specs.Names.{Texts}
-use Rattle.argon2_rows.specs.Table.{IsHonest}
-use Rattle.argon2_store.specs.AccountFile.{Answers, IsReady, NamesStay, Serves, database_of}
+use Rattle.argon2_rows.specs.Table.{IsHonest, Ghosts}
+use Rattle.argon2_store.specs.AccountFile.{Answers, IsReady, NamesStay, Serves, database_of, AccountFile}
 use Rattle.argon2_store.specs.Edits.{Edit, left_by}
-use Rattle.argon2_store.specs.Errors.{is_refusal}
-use Rattle.argon2_store.specs.Opening.{HoldsNames, IsAfterOpens, IsTableOf}
-use Rattle.argon2_rows.specs.Rows.{rows_of}
-use Rattle.argon2_store.specs.declared.account_file.AccountFile.{AccountFile}
-use Rattle.argon2_store.specs.declared.error.FileError.{FileError}
-use Rattle.argon2_store.specs.declared.error.FileError.TheVariants.{Closed}
+use Rattle.argon2_store.specs.Errors.{is_refusal, FileError, Closed}
+use Rattle.argon2_store.specs.Opening.{HoldsNames, IsAfterOpens, IsTableOf, Image}
+use Rattle.argon2_rows.specs.Rows.{rows_of, flat_map}
 
 -- A call with its answer. A crash is a disk that does nothing more from then on, so a call that it cuts off is recorded
 -- with the error that it would have returned.

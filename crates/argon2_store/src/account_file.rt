@@ -2,9 +2,7 @@
 #![tactic(auto, using(crate::proofs::FileLemmas::answers))]
 
 ghost use Rattle.std.specs.Prelude.{◌≡◌, ◌⊎◌, ◌↔◌, [], ◌∷◌, false, Err, IsTrue, IfErr, IfOk, OnOk, map, string_bytes};
-ghost use Rattle.std.specs.FinMap.{get};
-ghost use Rattle.std.specs.Option.{option_map};
-ghost use Rattle.argon2_rows.specs.Names.{Texts as Named, entry_of};
+ghost use Rattle.argon2_rows.specs.Names.{Texts as Named, entry_of, get};
 ghost use Rattle.argon2_rows.specs.Table.{HasSome, IsHonest, IsOpen};
 ghost use Rattle.argon2_store.specs.Errors.{IsOfPath, is_refusal, read_by};
 
@@ -46,7 +44,7 @@ pub type AccountsAt<T> = AccountFile<FileStore<FileFrom<T>>>;
 
 impl<S: Store> AccountFile<S> {
     ghost use Rattle.argon2_store.specs.AccountFile.{HasNames, IsClosed, IsErrorAt, Reads, Serves, WritesLines, database_of, unindexed};
-    ghost use Rattle.argon2_store.specs.Edits.{adding, additions, locking, removing, replacing, setting, text_of, unlocking};
+    ghost use Rattle.argon2_store.specs.Edits.{adding, additions, locking, option_map, removing, replacing, setting, text_of, unlocking};
 
     /// Gives a new name a text.
     ///
@@ -296,8 +294,7 @@ impl<T: Start> AccountsAt<T> {
 
 impl<D: Disk + Drop> AccountFile<FileStore<D>> {
     ghost use Rattle.argon2_store.specs.AccountFile.{IsFileFrom};
-    ghost use Rattle.argon2_store.specs.Opening.{IsOfPair};
-    ghost use Rattle.sqlite_wal.specs.Files.{seen_image};
+    ghost use Rattle.argon2_store.specs.Opening.{IsOfPair, seen_image};
 
     /// Opens the accounts in a database file and its log, or makes them if there is no table yet.
     /// [`open`](AccountFile::open) does so with the files at a path. `seed` is a random number, for the

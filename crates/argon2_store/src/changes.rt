@@ -2,9 +2,8 @@
 #![tactic(auto, using(argon2_rows::proofs::TableLemmas::kept))]
 
 ghost use Rattle.std.specs.Prelude.{◌≡◌, IsSomeAnd, map};
-ghost use Rattle.std.specs.FinMap.{get};
 ghost use Rattle.std.specs.Option.{option_copied};
-ghost use Rattle.argon2_rows.specs.Names.{Texts, changed, entry_of};
+ghost use Rattle.argon2_rows.specs.Names.{Texts, changed, entry_of, get};
 ghost use Rattle.argon2_rows.specs.Table.{Changes, HasRows, IsHonest, IsLong, IsOpen, WritesAll};
 
 use crate::account_file::AccountFile;
