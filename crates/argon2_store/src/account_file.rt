@@ -319,10 +319,7 @@ impl<D: Disk + Drop> AccountFile<FileStore<D>> {
             Ok(true) => return Err((OpenError::DamagedLog, files)),
             Err(_) => return Err((OpenError::Io, files)),
         }
-        let mut store = match open_files(alloc, files, seed) {
-            Ok(store) => store,
-            Err(failed) => return Err(failed),
-        };
+        let mut store = open_files(alloc, files, seed)?;
         let (mut row, mut key) = (Row::new(alloc), Row::new(alloc));
         let error = match load(&mut store, &mut row, &mut key) {
             Ok(true) => {

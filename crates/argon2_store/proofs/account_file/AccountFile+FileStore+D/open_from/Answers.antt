@@ -1,4 +1,4 @@
-use Rattle.argon2_store.proofs.Imports.{arith, rules, inl, refl, subst, subst₂, sym, halves, no_doubt, settled_at, over_file, view, FoundIn, leaves_quiet, quiet_itself, AreClean}
+use Rattle.argon2_store.proofs.Imports.{arith, rules, inl, refl, subst, subst₂, sym, halves, no_doubt, settled_at, over_file, view, FoundIn, leaves_quiet, quiet_itself, err_is, AreClean}
 use Rattle.argon2_store.proofs.NextOpenLemmas.{near_found}
 use Rattle.argon2_store.proofs.OpenLemmas.{is_honest, of_database, seen_same, unharmed_by_reads, unharmed_then}
 use Rattle.argon2_store.proofs.account_file.AccountFile+FileStore+D.open_from.Goals as goal
@@ -19,7 +19,7 @@ returns-in-Ok-true-load-clause-ready g c =
             (quiet_itself over_file c.load.new.store) clean (c.in-Ok-true-load.ensures.«open» clean);
       },
       lines,
-      λ clean. (has.0, subst₂ (FoundIn 4096) (search (arith, seen_same)) (rows clean) (c.in-Ok.ensures.found (search arith))),
+      λ clean. (has.0, subst₂ (FoundIn 4096) (search (arith, seen_same)) (rows clean) (c.in_ok-store.ensures.found (search arith))),
       λ clean damaged. search (arith, halves),
     )
 
@@ -27,10 +27,11 @@ pub returns-in-Err-clause-err : goal.returns-in-Err-clause-err
 returns-in-Err-clause-err g c =
     of_database (search rules) (search (arith, rules)) (λ clean left may. inl (c.is_damaged.ensures.same.crash left.log may.0, may.1))
 
-pub returns-in-Err-open_files-clause-err : goal.returns-in-Err-open_files-clause-err
-returns-in-Err-open_files-clause-err g c =
-    of_database (search rules) (λ clean damaged. let was = c.in-Err-open_files.ensures.falls clean in search (arith, halves))
-    (unharmed_then c.args.files.db _ c.is_damaged.ensures.same c.in-Err-open_files.ensures.left)
+pub returns-in_err-store-clause-err : goal.returns-in_err-store-clause-err
+returns-in_err-store-clause-err g c =
+    rw (err_is c.from_residual.result _ c.from_residual.ensures.1)
+    (of_database (search rules) (λ clean damaged. let was = c.in_err-store.ensures.falls clean in search (arith, halves))
+    (unharmed_then c.args.files.db _ c.is_damaged.ensures.same c.in_err-store.ensures.left))
 
 -- a row is no account, or the rows can't be read
 pub returns-clause-err : goal.returns-clause-err
@@ -38,16 +39,16 @@ returns-clause-err g c =
     let now = λ (clean : AreClean g.D.Disk c.close.result.log c.close.result.db).
     no_doubt _ (is_honest c.load.new.store.pool _ (sym c.close.ensures) clean) in
     let held = λ (clean : AreClean g.D.Disk c.close.result.log c.close.result.db).
-    c.in-Ok.ensures.honest (omega (arith, c.load.ensures.quiet.clean, now clean)) in
+    c.in_ok-store.ensures.honest (omega (arith, c.load.ensures.quiet.clean, now clean)) in
     let unharmed = unharmed_then c.args.files.db _ c.is_damaged.ensures.same
-    (unharmed_by_reads (c.is_damaged.new.log, c.args.files.db) c.in-Ok.store c.load.new.store _ g.met.D.Disk.seen_may_stay
-    c.load.ensures.quiet c.in-Ok.ensures.fresh c.in-Ok.ensures.found c.close.ensures) in
+    (unharmed_by_reads (c.is_damaged.new.log, c.args.files.db) c.in_ok-store.store c.load.new.store _ g.met.D.Disk.seen_may_stay
+    c.load.ensures.quiet c.in_ok-store.ensures.fresh c.in_ok-store.ensures.found c.close.ensures) in
     elim c.match-load.branch [
       | in-Ok-false-load w ↦ rw w.error-is record {
         kind = inl refl;
         row = λ is clean names lines holds.
-            let found = subst (λ i. FoundIn 4096 i ((view c.in-Ok.store).committed 0))
-            (seen_same c.args.files.db c.is_damaged.ensures.same) (c.in-Ok.ensures.found (search arith)) in
+            let found = subst (λ i. FoundIn 4096 i ((view c.in_ok-store.store).committed 0))
+            (seen_same c.args.files.db c.is_damaged.ensures.same) (c.in_ok-store.ensures.found (search arith)) in
             w.in-Ok-false-load.ensures.refused w.in-Ok-false-load.field-0-test (now clean) names holds.0 lines
             (sym ((near_found _ _ found).0 _ holds.1));
         damaged = λ is. absurd cc;
