@@ -1,6 +1,6 @@
 -- Names to which several are added.
-use Rattle.argon2_rows.proofs.Imports.{◌≡◌, ℕ, List, [], ◌∷◌, ◌++◌, false, Some, Result, Ok, Err, refl, Io, arith, inl, map, Bor, Any, StoreError, Ghosts, Texts, AddsAll, AddsEach, AddsNames, IsAdded}
-use Rattle.argon2_rows.proofs.Imports.{WritesAll, IsPermutation, entry_of, Changes, bytes_eq-Decides, true, HasBegun, IsKept, Writes, written_of, HasRows, HasFailed, CrashLeaves, ◌⊎◌, IsHonest, IsLong, IsOpen, StaysQuiet}
+use Rattle.argon2_rows.proofs.Imports.{◌≡◌, ℕ, List, [], ◌∷◌, ◌++◌, false, sym, Some, Result, Ok, Err, refl, Io, arith, inl, map, Bor, Any, StoreError, Ghosts, Texts, AddsAll, AddsEach, AddsNames, changed, get, None}
+use Rattle.argon2_rows.proofs.Imports.{WritesAll, IsPermutation, entry_of, Changes, bytes_eq-Decides, HasBegun, IsKept, Writes, written_of, HasRows, HasFailed, CrashLeaves, ◌⊎◌, IsHonest, IsLong, IsOpen, StaysQuiet}
 use Rattle.argon2_rows.proofs.Imports.{StoredText, AddError, Store, Taken}
 use Rattle.std.proofs.lemmas.Result.{on_ok_weaker}
 use Rattle.std.proofs.lemmas.List.Sorted.{Contains-permutation, IsPermutation-map, IsPermutation-sym}
@@ -9,9 +9,9 @@ use Rattle.argon2_rows.proofs.RowLemmas.{changed_apart, get-at, get-changed}
 use Rattle.argon2_rows.proofs.TableLemmas.{Settled, cause_map, changes_of, leaves_quiet, quiet_itself, quiet_then, taken_back, writes_less}
 
 pub add_last : (es : List (List ℕ × List ℕ)) (before mid after : Texts) (e : List ℕ × List ℕ) → AddsAll before es mid
-    → IsAdded mid e.0 e.1 true after → AddsAll before (es ++ e ∷ []) after
-add_last [] before mid after e same last = rw same at last
-add_last (x ∷ xs) before mid after e all last = (all.0, add_last xs _ mid after e all.1 last)
+    → get mid e.0 ≡ None → after ≡ changed mid e.0 (Some e.1) → AddsAll before (es ++ e ∷ []) after
+add_last [] before mid after e same none last = let first : before ≡ mid = sym same in rw first (none, last)
+add_last (x ∷ xs) before mid after e all none last = (all.0, add_last xs _ mid after e all.1 none last)
 
 -- ---- the order of the names
 

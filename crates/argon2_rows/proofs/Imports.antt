@@ -1,5 +1,5 @@
 -- The words that the proofs of this crate use.
-pub use Rattle.std.proofs.Common.{Bool, Err, IsPermutation, IsSome, IsTrue, IsUtf8, Less, List, None, Ok, Option, Ordering, Result, Some, T, [], ap, arith, cond, false}
+pub use Rattle.std.proofs.Common.{Bool, Err, IsPermutation, IsSome, IsTrue, IsUtf8, List, None, Ok, Option, Ordering, Result, Some, T, [], ap, arith, cond, false}
 pub use Rattle.std.proofs.Common.{get_or, inl, inr, length, lit<, map, not, refl, rules, subst, sym, take, true, ℕ, ◌++◌, ◌<◌, ◌∙◌, ◌∷◌, ◌≡◌, ◌≢◌, ◌⊎◌, ◌↔◌}
 pub use Rattle.std.proofs.lemmas.Cmp.{tied_itself, alike_right}
 pub use Rattle.std.proofs.lemmas.List.{get_or-map, length-map, map_more, take-map, take_all, map-id}
@@ -18,7 +18,7 @@ pub use Rattle.sqlite_trees.specs.Tree.{IsIndex, Trees, from_key, insert_entry, 
 pub use Rattle.sqlite_trees.specs.View.{Advances, IsOrdered, IsStorable, KeepsSchema, View, is_int, with_cursor, HasCause, doubt}
 pub use Rattle.sqlite_trees.specs.declared.store.Direction.TheVariants.{Forward}
 pub use Rattle.sqlite_store.proofs.RowLemmas.{from_key-none}
-pub use Rattle.argon2_rows.specs.Names.{AddsAll, AddsEach, IsAdded, Texts, changed, entry_of, Bor, StoredText, AddError, Store, Taken}
+pub use Rattle.argon2_rows.specs.Names.{AddsAll, AddsEach, Texts, changed, entry_of, Bor, StoredText, AddError, Store, Taken}
 pub use Rattle.argon2_rows.specs.Rows.{AreLines, AreTexts, AreLinesOf, AreWritten, IsLineOf, HasNoneAfter, IsAccount, IsAfterAll, IsFoundAs, breaks_line, row_of, rows_of, shown_char, Keeps}
 pub use Rattle.argon2_rows.specs.Rows.{Appends, Text, Written, Breaks, Failed}
 pub use Rattle.argon2_rows.specs.Table.{Changes, EndsRead, Finishes, HasBegun, HasFailed, HasRows, HasSome, IsUnwritten, IsHonest, IsKept, IsLong, IsOpen, CrashLeaves, Sees, StaysQuiet, AddsNames, Writes}

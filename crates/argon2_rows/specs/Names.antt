@@ -1,5 +1,5 @@
 -- Names with their texts, and several that are added, one after the other.
-use Rattle.std.specs.Prelude.{◌≡◌, ℕ, ◌<◌, List, [], ◌∷◌, length, slice_index_or, take, Bool, true, false, Option, Some, None, IsSome, Result, Ok, Err, ⊤}
+use Rattle.std.specs.Prelude.{◌≡◌, ℕ, ◌<◌, List, [], ◌∷◌, length, slice_index_or, take, Option, Some, None, IsSome, Result, Ok, Err, ⊤}
 pub use Rattle.std.specs.Borrow.{Bor}
 pub use Rattle.std.specs.Cmp.Lexicographic.{slice_cmp}
 pub use Rattle.std.specs.FinMap.{FinMap, entries, get, insert, remove}
@@ -22,11 +22,6 @@ changed names name (Some text) = insert names name text
 -- a name and its text
 abbrev pub entry_of : Bor (List ℕ) × StoredText → List ℕ × List ℕ
 entry_of e = (e.0.now, e.1.text.now)
-
--- whether adding a name finds it new, and the names after it
-abbrev pub IsAdded : Texts → List ℕ → List ℕ → Bool → Texts → Type 0
-IsAdded before name text true after = (get before name ≡ None) × (after ≡ changed before name (Some text))
-IsAdded before name text false after = IsSome (get before name) × (after ≡ before)
 
 -- none of the names is there, and each is added
 abbrev pub AddsAll : Texts → List (List ℕ × List ℕ) → Texts → Type 0

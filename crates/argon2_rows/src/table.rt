@@ -1,11 +1,11 @@
 //! Writing rows.
 #![tactic(auto, using(crate::proofs::TableLemmas::kept))]
 
-ghost use Rattle.std.specs.Prelude.{◌≡◌, Any, None, Some, IsTrue, IsUtf8, IfOk, map};
+ghost use Rattle.std.specs.Prelude.{◌≡◌, Any, None, Some, IsTrue, IsUtf8, map};
 ghost use Rattle.sqlite_trees.specs.View.{KeepsSchema};
-ghost use Rattle.argon2_rows.specs.Names.{AddsEach, IsAdded, Texts, changed, entry_of, slice_cmp, get, nat_cmp};
-ghost use Rattle.argon2_rows.specs.Rows.{AreTexts, HasNoneAfter, IsAfterAll, Less};
-ghost use Rattle.argon2_rows.specs.Table.{EndsRead, Finishes, HasBegun, IsHonest, IsKept, IsLong, Sees, StaysQuiet, Writes, done_of, written_of, plain, Index};
+ghost use Rattle.argon2_rows.specs.Names.{AddsEach, Texts, changed, entry_of, slice_cmp, get, nat_cmp};
+ghost use Rattle.argon2_rows.specs.Rows.{AreTexts, Less};
+ghost use Rattle.argon2_rows.specs.Table.{EndsRead, Finishes, HasBegun, IsHonest, IsKept, IsLong, Sees, StaysQuiet, Writes, written_of, plain, Index};
 
 use crate::rows::{ACCOUNTS, find, lay};
 use crate::text::StoredText;
@@ -97,39 +97,6 @@ pub fn replace<S: Store>(
     insert(store, row, name, new)
 }
 
-// Writes the row of a new name, and returns whether it is new. If `is_last` says that the name comes after all others, it is
-// not looked up. The call sets `is_last` if a look-up shows that.
-fn add<S: Store>(
-    store: &mut S,
-    row: &mut Row,
-    key: &mut Row,
-    is_last: &mut bool,
-    name: &str,
-    text: &str,
-) -> Result<bool, StoreError>
-    requires { IsHonest S.Store store.old → (S.Store.view store.old).shape 0 ≡ Index plain }
-    ensures schema { KeepsSchema (S.Store.view store.old) (S.Store.view store.new) }
-    ensures quiet { StaysQuiet S.Store store.old store.new }
-    ensures writes { (before : Texts) → AreTexts before →
-        (IsHonest S.Store store.old → Sees (S.Store.view store.old) before) →
-        (IsTrue is_last.old → IsHonest S.Store store.old → IsAfterAll before name.now) →
-        (after : Texts) × AreTexts after × Writes S.Store store.old store.new before after
-        (IsLong (name.now, text.now)) (done_of result)
-        × IfOk result (λ is_new. IsHonest S.Store store.new →
-        IsAdded before name.now text.now is_new after
-        × (IsTrue is_last.new → HasNoneAfter after name.now)) }
-{
-    if !*is_last {
-        match find(store, row, key, name)? {
-            Some(true) => return Ok(false),
-            Some(false) => {}
-            None => *is_last = true,
-        }
-    }
-    insert(store, row, name, text)?;
-    Ok(true)
-}
-
 // Whether a name comes after `last`, and that after all others.
 fn comes_after(name: &str, is_last: bool, last: &[u8]) -> bool
     ensures { IsTrue result → IsTrue is_last × (slice_cmp nat_cmp last.now name.now ≡ Less) }
@@ -159,9 +126,14 @@ pub fn add_each<S: Store>(
     let mut last: &[u8] = &[];
     for (k, &(name, text)) in new.iter().enumerate() {
         is_last = comes_after(name, is_last, last);
-        if !add(store, row, key, &mut is_last, name, text.as_str())? {
-            return Err(AddError::Taken(k));
+        if !is_last {
+            match find(store, row, key, name)? {
+                Some(true) => return Err(AddError::Taken(k)),
+                Some(false) => {}
+                None => is_last = true,
+            }
         }
+        insert(store, row, name, text.as_str())?;
         last = name.as_bytes();
     }
     Ok(())

@@ -1,65 +1,98 @@
-use Rattle.argon2_rows.proofs.Imports.{◌<◌, ◌≡◌, arith, length, ℕ, List, [], refl, map, get_or, sym, Bor, get_or-map, length-map, map_more, StoredText, ◌∙◌, ap, take-map, take_all, Any, entry_of}
-use Rattle.argon2_rows.proofs.Imports.{IsLong, Texts, HasNoneAfter, IsAfterAll, Less, slice_cmp, nat_cmp, nat_list_cmp_total}
+use Rattle.argon2_rows.proofs.Imports.{◌<◌, ◌≡◌, arith, length, ℕ, List, [], refl, map, get, get_or, sym, Bor, get_or-map, length-map, map_more, StoredText, ◌∙◌, ap, take, take-map, take_all, Any, entry_of, None, Some, Ok}
+use Rattle.argon2_rows.proofs.Imports.{IsLong, IsTrue, Texts, AddsAll, AreTexts, HasNoneAfter, IsHonest, Sees, Writes, changed, nat_list_cmp_total, tied_itself, bytes_eq-Decides}
 use Rattle.argon2_rows.proofs.AddLemmas.{add_last}
+use Rattle.argon2_rows.proofs.RowLemmas.{get-at, texts_changed}
 use Rattle.argon2_rows.proofs.TableLemmas.{err_is, keeps_index, writes_then}
 use Rattle.argon2_rows.proofs.table.add_each.Goals as goal
+use Rattle.argon2_rows.proofs.table.add_each.Goals.{After-insert, then-not-is_last+in_ok-find+in-Some-false, then-not-is_last+in_ok-find+in-None, else-not-is_last}
 
 some_long : (new : List (Bor (List ℕ) × StoredText)) (i : ℕ) (e : Bor (List ℕ) × StoredText) → i < length new
     → get_or new i e ≡ e → IsLong (entry_of e) → Any IsLong (map entry_of new)
 some_long new i e within is long =
     (i, entry_of e, rw length-map within, get_or-map entry_of new i e (entry_of e) within ∙ ap entry_of is, long)
 
--- a name after the last one is after all if that is
-past : {P Q : Type 0} (names : Texts) (last name : List ℕ) → (P → Q × (slice_cmp nat_cmp last name ≡ Less))
-    → {H : Type 0} → (Q → H → HasNoneAfter names last) → P → H → IsAfterAll names name
-past names last name later none is clean = search (arith, nat_list_cmp_total.trans)
+-- no name after a new one has a text if none had one
+none_after_new : (before : Texts) (name text : List ℕ) → HasNoneAfter before name → HasNoneAfter (changed before name (Some text)) name
+none_after_new before name text none later less =
+    grind (arith, get-at before name later (Some text), bytes_eq-Decides later name, tied_itself nat_list_cmp_total name, none later less)
+
+-- the name has no row, as a look-up found, or since it comes after the last one, and that after all others
+looked : (g : _) (c : After-insert g) (mid : Texts) → (IsHonest g.S.Store c.loop-k.store → Sees (g.S.Store.view c.loop-k.store) mid)
+    → (IsTrue c.loop-k.is_last → IsHonest g.S.Store c.loop-k.store → HasNoneAfter mid c.loop-k.last.now)
+    → Writes g.S.Store c.loop-k.store c.if-not-is_last.store mid mid ⊥ (Ok tt)
+    × (IsHonest g.S.Store c.if-not-is_last.store → (get mid c.index-new-k.result.0.now ≡ None)
+    × (IsTrue c.if-not-is_last.is_last → HasNoneAfter mid c.index-new-k.result.0.now))
+looked g c mid sees last = elim c.if-not-is_last.branch [
+  | then-not-is_last+in_ok-find+in-Some-false w ↦ let found = w.in_ok-find.ensures.found mid in search arith
+  | then-not-is_last+in_ok-find+in-None w ↦ let found = w.in_ok-find.ensures.found mid in search arith
+  | else-not-is_last w ↦ let after = c.comes_after-is_last.ensures in search (arith, nat_list_cmp_total.trans)
+]
+
+-- its row is written after those of the names before it
+added : (g : _) (c : After-insert g) (before : Texts) → AreTexts before → (IsHonest g.S.Store c.args.store.now → Sees (g.S.Store.view c.args.store.now) before)
+    → (mid : Texts) × AreTexts mid
+    × Writes g.S.Store c.args.store.now c.insert.new.store before (changed mid c.index-new-k.result.0.now (Some c.index-new-k.result.1.text.now))
+    (Any IsLong (map entry_of c.args.new.now)) c.insert.result
+    × (IsHonest g.S.Store c.if-not-is_last.store → AddsAll before (map entry_of (take c.loop-k.k c.args.new.now)) mid
+    × (get mid c.index-new-k.result.0.now ≡ None) × (IsTrue c.if-not-is_last.is_last → HasNoneAfter mid c.index-new-k.result.0.now))
+added g c before texts sees =
+    let (mid, fine, all, wrote) = c.loop-k.invariant.1 before texts sees in
+    let (read, new) = looked g c mid (search arith) (λ is clean. (all clean).1 is) in
+    let long = some_long c.args.new.now c.loop-k.k _ c.loop-k-test.true (sym c.index-new-k.is) in (
+      mid,
+      fine,
+      writes_then (writes_then {R = ⊥} wrote read (λ never. never))
+          (rw c.as_str.ensures at (c.insert.ensures.writes mid (λ clean. (new clean).0))) long,
+      λ clean. let (none, last) = new clean in ((all (omega (arith, clean, read.quiet.clean))).0, none, last),
+    )
 
 pub loop-k-init : goal.loop-k-init
 loop-k-init g c =
     (c.requires, λ before texts sees. (before, texts, λ clean. (refl, λ is. absurd cc), search arith))
 
-pub returns-in_err-add : goal.returns-in_err-add
-returns-in_err-add g c before texts sees =
+pub returns-in_err-find : goal.returns-in_err-find
+returns-in_err-find g c before texts sees =
     let (mid, fine, all, wrote) = c.loop-k.invariant.1 before texts sees in
-    let (after, good, more, done) = (rw c.as_str.ensures at (c.in_err-add.ensures.writes mid fine (search arith)
-    (past mid _ _ c.comes_after-is_last.ensures (λ is clean. (all clean).1 is)))) in
-    let long = some_long c.args.new.now c.loop-k.k _ c.loop-k-test.true (sym c.index-new-k.is) in
-    rw (err_is c.from_residual.result _ c.from_residual.ensures.1) (after, good, writes_then wrote more long, λ clean. tt)
+    rw (err_is c.from_residual.result _ c.from_residual.ensures.1)
+    (mid, fine, writes_then {Q = ⊥} wrote (search (arith, c.in_err-find.ensures.err, c.in_err-find.ensures.cause)) (λ never. absurd never), λ clean. tt)
 
-pub returns-then-not-branch : goal.returns-then-not-branch
-returns-then-not-branch g c before texts sees =
+pub returns-in-Some-true : goal.returns-in-Some-true
+returns-in-Some-true g c before texts sees =
     let (mid, fine, all, wrote) = c.loop-k.invariant.1 before texts sees in
-    let (after, good, more, taken) = (rw (c.as_str.ensures, c.if-not-branch.true) at (c.in_ok-add.ensures.writes mid fine
-    (search arith) (past mid _ _ c.comes_after-is_last.ensures (λ is clean. (all clean).1 is)))) in
     let within : c.loop-k.k < length c.args.new.now = c.loop-k-test.true in
+    let found = c.in_ok-find.ensures.found mid in
     let is = get_or-map entry_of c.args.new.now c.loop-k.k c.index-new-k.result ([], []) within in (
-      after,
-      good,
-      writes_then wrote more (some_long c.args.new.now c.loop-k.k _ within (sym c.index-new-k.is)),
+      mid,
+      fine,
+      writes_then wrote (search arith) (λ never. absurd never),
       λ clean. (
         mid,
-        rw take-map (all (omega (arith, clean, more.quiet.clean))).0,
+        rw take-map (all (omega (arith, clean, c.find.ensures.quiet.clean))).0,
         rw length-map within,
-        rw (is, ← c.index-new-k.is) (taken clean).0.0,
+        rw (is, ← c.index-new-k.is) (grind arith),
       ),
     )
 
+pub returns-in_err-insert : goal.returns-in_err-insert
+returns-in_err-insert g c before texts sees =
+    let (mid, fine, wrote, all) = rw c.in_err-insert.was at (added g (goal.at.returns-in_err-insert g c).After-insert before texts sees) in
+    rw (err_is c.from_residual-in_err-insert.result _ c.from_residual-in_err-insert.ensures.1) (mid, fine, search arith, λ clean. tt)
+
 pub loop-k-preserved : goal.loop-k-preserved
 loop-k-preserved g c = (
-  keeps_index g.S.Store c.add.ensures.schema c.add.ensures.quiet c.loop-k.invariant.0,
+  search (arith, keeps_index),
   λ before texts sees.
-      let (mid, fine, all, wrote) = c.loop-k.invariant.1 before texts sees in
-      let (after, good, more, done) = (rw (c.as_str.ensures, c.if-not-branch.false) at (c.in_ok-add.ensures.writes mid fine
-      (search arith) (past mid _ _ c.comes_after-is_last.ensures (λ is clean. (all clean).1 is)))) in
-      let within : c.loop-k.k < length c.args.new.now = c.loop-k-test.true in (
-        after,
-        good,
-        λ clean. (
-          rw (map_more entry_of c.args.new.now c.loop-k.k c.index-new-k.result, ← c.index-new-k.is)
-              (add_last _ before mid after _ (all (omega (arith, clean, more.quiet.clean))).0 (done clean).0),
-          λ is. rw c.as_bytes-last.ensures.value ((done clean).1 is),
-        ),
-        writes_then wrote more (some_long c.args.new.now c.loop-k.k _ within (sym c.index-new-k.is)),
+      let (mid, fine, wrote, all) = rw c.in_ok-insert.was at (added g (goal.at.loop-k-preserved g c).After-insert before texts sees) in (
+        changed mid c.index-new-k.result.0.now (Some c.index-new-k.result.1.text.now),
+        texts_changed mid c.index-new-k.result.0.now (Some c.index-new-k.result.1.text.now) fine
+            (rw c.as_bytes-last.ensures.value at c.as_bytes-last.ensures.utf8) (search arith),
+        λ clean.
+            let within : c.loop-k.k < length c.args.new.now = c.loop-k-test.true in
+            let (adds, none, last) = all (omega (arith, clean, c.insert.ensures.quiet.clean)) in (
+              rw (map_more entry_of c.args.new.now c.loop-k.k c.index-new-k.result, ← c.index-new-k.is) (add_last _ before mid _ _ adds none refl),
+              λ is. rw c.as_bytes-last.ensures.value (none_after_new mid _ _ (last is)),
+            ),
+        wrote,
       ),
 )
 
