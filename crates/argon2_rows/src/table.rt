@@ -3,8 +3,8 @@
 
 ghost use Rattle.std.specs.Prelude.{◌≡◌, Any, None, Some, IsTrue, IsUtf8, map};
 ghost use Rattle.sqlite_trees.specs.View.{KeepsSchema};
-ghost use Rattle.argon2_rows.specs.Names.{AddsEach, Texts, changed, entry_of, slice_cmp, get, nat_cmp};
-ghost use Rattle.argon2_rows.specs.Rows.{AreTexts, Less};
+ghost use Rattle.argon2_rows.specs.Names.{AddsEach, Texts, changed, entry_of, get};
+ghost use Rattle.argon2_rows.specs.Rows.{AreTexts};
 ghost use Rattle.argon2_rows.specs.Table.{EndsRead, Finishes, HasBegun, IsHonest, IsKept, IsLong, Sees, StaysQuiet, Writes, written_of, plain, Index};
 
 use crate::rows::{ACCOUNTS, find, lay};
@@ -97,13 +97,6 @@ pub fn replace<S: Store>(
     insert(store, row, name, new)
 }
 
-// Whether a name comes after `last`, and that after all others.
-fn comes_after(name: &str, is_last: bool, last: &[u8]) -> bool
-    ensures { IsTrue result → IsTrue is_last × (slice_cmp nat_cmp last.now name.now ≡ Less) }
-{
-    is_last && last.cmp(&name.as_bytes()).is_lt()
-}
-
 /// Writes the rows of new names with their texts, up to the first that has a row. `row` and `key` are memory for rows.
 ///
 /// # Errors
@@ -125,12 +118,11 @@ pub fn add_each<S: Store>(
     let mut is_last = false;
     let mut last: &[u8] = &[];
     for (k, &(name, text)) in new.iter().enumerate() {
-        is_last = comes_after(name, is_last, last);
-        if !is_last {
+        // A name that comes after the last one, and that after all others, is not looked up.
+        if !(is_last && last.cmp(&name.as_bytes()).is_lt()) {
             match find(store, row, key, name)? {
                 Some(true) => return Err(AddError::Taken(k)),
-                Some(false) => {}
-                None => is_last = true,
+                found => is_last = found.is_none(),
             }
         }
         insert(store, row, name, text.as_str())?;

@@ -4,7 +4,7 @@ use Rattle.argon2_rows.proofs.AddLemmas.{add_last}
 use Rattle.argon2_rows.proofs.RowLemmas.{get-at, texts_changed}
 use Rattle.argon2_rows.proofs.TableLemmas.{err_is, keeps_index, writes_then}
 use Rattle.argon2_rows.proofs.table.add_each.Goals as goal
-use Rattle.argon2_rows.proofs.table.add_each.Goals.{After-insert, then-not-is_last+in_ok-find+in-Some-false, then-not-is_last+in_ok-find+in-None, else-not-is_last}
+use Rattle.argon2_rows.proofs.table.add_each.Goals.{After-insert, then-is_last, else-is_last, then-not-is_lt+in_ok-found+in_default, else-not-is_lt}
 
 some_long : (new : List (Bor (List ℕ) × StoredText)) (i : ℕ) (e : Bor (List ℕ) × StoredText) → i < length new
     → get_or new i e ≡ e → IsLong (entry_of e) → Any IsLong (map entry_of new)
@@ -19,13 +19,15 @@ none_after_new before name text none later less =
 -- the name has no row, as a look-up found, or since it comes after the last one, and that after all others
 looked : (g : _) (c : After-insert g) (mid : Texts) → (IsHonest g.S.Store c.loop-k.store → Sees (g.S.Store.view c.loop-k.store) mid)
     → (IsTrue c.loop-k.is_last → IsHonest g.S.Store c.loop-k.store → HasNoneAfter mid c.loop-k.last.now)
-    → Writes g.S.Store c.loop-k.store c.if-not-is_last.store mid mid ⊥ (Ok tt)
-    × (IsHonest g.S.Store c.if-not-is_last.store → (get mid c.index-new-k.result.0.now ≡ None)
-    × (IsTrue c.if-not-is_last.is_last → HasNoneAfter mid c.index-new-k.result.0.now))
-looked g c mid sees last = elim c.if-not-is_last.branch [
-  | then-not-is_last+in_ok-find+in-Some-false w ↦ let found = w.in_ok-find.ensures.found mid in search arith
-  | then-not-is_last+in_ok-find+in-None w ↦ let found = w.in_ok-find.ensures.found mid in search arith
-  | else-not-is_last w ↦ let after = c.comes_after-is_last.ensures in search (arith, nat_list_cmp_total.trans)
+    → Writes g.S.Store c.loop-k.store c.if-not-is_lt.store mid mid ⊥ (Ok tt)
+    × (IsHonest g.S.Store c.if-not-is_lt.store → (get mid c.index-new-k.result.0.now ≡ None)
+    × (IsTrue c.if-not-is_lt.is_last → HasNoneAfter mid c.index-new-k.result.0.now))
+looked g c mid sees last = elim c.if-not-is_lt.branch [
+  | then-not-is_lt+in_ok-found+in_default w ↦ let found = w.in_ok-found.ensures.found mid in search arith
+  | else-not-is_lt w ↦ elim c.if-is_last.branch [
+    | then-is_last v ↦ search (arith, nat_list_cmp_total.trans)
+    | else-is_last v ↦ absurd cc
+  ]
 ]
 
 -- its row is written after those of the names before it
@@ -33,8 +35,8 @@ added : (g : _) (c : After-insert g) (before : Texts) → AreTexts before → (I
     → (mid : Texts) × AreTexts mid
     × Writes g.S.Store c.args.store.now c.insert.new.store before (changed mid c.index-new-k.result.0.now (Some c.index-new-k.result.1.text.now))
     (Any IsLong (map entry_of c.args.new.now)) c.insert.result
-    × (IsHonest g.S.Store c.if-not-is_last.store → AddsAll before (map entry_of (take c.loop-k.k c.args.new.now)) mid
-    × (get mid c.index-new-k.result.0.now ≡ None) × (IsTrue c.if-not-is_last.is_last → HasNoneAfter mid c.index-new-k.result.0.now))
+    × (IsHonest g.S.Store c.if-not-is_lt.store → AddsAll before (map entry_of (take c.loop-k.k c.args.new.now)) mid
+    × (get mid c.index-new-k.result.0.now ≡ None) × (IsTrue c.if-not-is_lt.is_last → HasNoneAfter mid c.index-new-k.result.0.now))
 added g c before texts sees =
     let (mid, fine, all, wrote) = c.loop-k.invariant.1 before texts sees in
     let (read, new) = looked g c mid (search arith) (λ is clean. (all clean).1 is) in
@@ -50,17 +52,17 @@ pub loop-k-init : goal.loop-k-init
 loop-k-init g c =
     (c.requires, λ before texts sees. (before, texts, λ clean. (refl, λ is. absurd cc), search arith))
 
-pub returns-in_err-find : goal.returns-in_err-find
-returns-in_err-find g c before texts sees =
+pub returns-in_err-found : goal.returns-in_err-found
+returns-in_err-found g c before texts sees =
     let (mid, fine, all, wrote) = c.loop-k.invariant.1 before texts sees in
     rw (err_is c.from_residual.result _ c.from_residual.ensures.1)
-    (mid, fine, writes_then {Q = ⊥} wrote (search (arith, c.in_err-find.ensures.err, c.in_err-find.ensures.cause)) (λ never. absurd never), λ clean. tt)
+    (mid, fine, writes_then {Q = ⊥} wrote (search (arith, c.in_err-found.ensures.err, c.in_err-found.ensures.cause)) (λ never. absurd never), λ clean. tt)
 
 pub returns-in-Some-true : goal.returns-in-Some-true
 returns-in-Some-true g c before texts sees =
     let (mid, fine, all, wrote) = c.loop-k.invariant.1 before texts sees in
     let within : c.loop-k.k < length c.args.new.now = c.loop-k-test.true in
-    let found = c.in_ok-find.ensures.found mid in
+    let found = c.in_ok-found.ensures.found mid in
     let is = get_or-map entry_of c.args.new.now c.loop-k.k c.index-new-k.result ([], []) within in (
       mid,
       fine,
