@@ -1,7 +1,7 @@
 //! Writing rows.
 #![tactic(auto, using(crate::proofs::TableLemmas::kept))]
 
-ghost use Rattle.std.specs.Prelude.{◌≡◌, Any, None, Some, IsTrue, IsUtf8, map};
+ghost use Rattle.std.specs.Prelude.{◌≡◌, Any, None, Some, IsUtf8, map};
 ghost use Rattle.sqlite_trees.specs.View.{KeepsSchema};
 ghost use Rattle.argon2_rows.specs.Names.{AddsEach, Texts, changed, entry_of, get};
 ghost use Rattle.argon2_rows.specs.Rows.{AreTexts};

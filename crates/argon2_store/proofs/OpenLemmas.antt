@@ -130,20 +130,20 @@ left_table it listed left may = ∥∥₁_elim it.safe squash₁ (λ all.
 
 -- The rows were read, or not all of them: whatever a crash leaves has those that the open found.
 pub unharmed_by_reads : {D : Type 0} {g : Ghosts D} (old : D × D) (it end : FileStore D g) (new : D × D) → SeenMayStay g
-    → IsQuietCall it end → (IsClean (view it) → IsUnwritten (view it))
-    → (IsClean (view it) → FoundIn 4096 (seen_image g old.0 old.1) ((view it).committed 0)) → new ≡ files end
-    → AreUnharmed g old new
-unharmed_by_reads old it end new stay quiet fresh found closed clean left may =
+    → IsQuietCall it end
+    → (IsClean (view it) → IsUnwritten (view it) × AreClean g old.0 old.1 × FoundIn 4096 (seen_image g old.0 old.1) ((view it).committed 0))
+    → new ≡ files end → AreUnharmed g old new
+unharmed_by_reads old it end new stay quiet opened closed clean left may =
     let may_so = may_leave end.pool new (sym closed) clean left may in
     let was : IsClean (view it) = omega (arith, quiet.clean, no_doubt _ (clean_if_left end.pool left may_so)) in
-    let first = fresh was in
+    let (first, honest, found) = opened was in
     let same = λ (db : Trees) (can : recovers end db).
     settled_at it stay db (not_broken _ _ first.unbroken).1 (quiet.outcomes db can) in
     let listed = λ (db : Trees) (can : recovers end db).
     ap (λ (t : Trees). t catalog_tree) (same db can ∙ sym first.settled) ∙ first.listed in
     inr (inr (
       (view it).committed 0,
-      ∣ found was ∣₁,
+      ∣ found ∣₁,
       ∥∥₁_map (left_table end listed left may_so)
           (λ (db, can, table). inl (subst (λ (t : Trees). IsTableOf left (t 0)) (same db can) table)),
     ))

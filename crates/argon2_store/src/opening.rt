@@ -1,16 +1,13 @@
 //! Opening the file at a path, or making it.
-#![tactic(auto, using(sqlite_trees::proofs::Doubt::clean_of))]
 
-ghost use Rattle.std.specs.Prelude.{◌≡◌, ◌+◌, ◌≤◌, ◌↔◌, [], ◌∷◌, true, false, IsTrue, IfErr, IfOk};
+ghost use Rattle.std.specs.Prelude.{◌≡◌, ◌+◌, ◌≤◌, ◌↔◌, true, false, IsTrue, IfErr, IfOk};
 ghost use Rattle.sqlite_store.specs.FileStore.{view};
-ghost use Rattle.sqlite_store.specs.Unopened.{AreUsable, image, state_of, wanted_by};
 ghost use Rattle.sqlite_disk.specs.Disk.{CountsFault};
 ghost use Rattle.sqlite_std_file.specs.File.{IsFresh, file_is_usable};
-ghost use Rattle.sqlite_trees.specs.View.{IsClean};
 ghost use Rattle.sqlite_wal.specs.Format.{be32};
 ghost use Rattle.argon2_store.specs.Errors.{IsOfDatabase, IsOfPath};
-ghost use Rattle.argon2_store.specs.Opening.{AreSynced, AreUnharmed, FoundIn, IsDamaged, StandsFor, IsBlankFile, seen_image, IsSigned, AreClean, OnlyReads, Image, account};
-ghost use Rattle.argon2_rows.specs.Table as table;
+ghost use Rattle.argon2_store.specs.Opening.{AreSynced, AreUnharmed, FoundIn, IsDamaged, seen_image, IsSigned, AreClean, OnlyReads};
+ghost use Rattle.argon2_rows.specs.Table.{IsClean, IsUnwritten};
 
 use crate::error::OpenError;
 use sqlite_disk::{Disk, Files};
@@ -65,64 +62,21 @@ const FIRST: [u8; 106] = [
 // The first byte of a log's magic number.
 const MAGIC: u8 = 0x37;
 
-// Opens the table, or makes it in a database without tables, such as a first open that was cut off leaves. One that lists more
-// than one thing is refused.
-fn attach<D: Disk + Drop>(
-    mut files: Unopened<D>,
-    is_new: bool,
-) -> Result<FileStore<D>, (OpenError, Unopened<D>)>
-    requires usable { AreUsable files }
-    requires schema { wanted_by files ≡ account ∷ [] }
-    requires blank { IsTrue is_new → IsTrue (state_of files).is_clean →
-        IsBlankFile (state_of files).page_size (image files) }
-    ensures fresh { IfOk result (λ it. IsClean (view it) → table.IsUnwritten (view it)) }
-    ensures honest { IfOk result (λ it. IsClean (view it) → IsTrue (state_of files).is_clean) }
-    ensures found { IfOk result (λ it. IsClean (view it) →
-        FoundIn (state_of files).page_size (image files) ((view it).committed 0)) }
-    ensures error { IfErr result (λ e. IsOfDatabase e.0) }
-    ensures falls { IfErr result (λ e.
-        IsTrue (state_of e.1).is_clean → IsTrue (state_of files).is_clean) }
-    ensures left { IfErr result (λ e. (state_of files).page_size ≡ 4096 →
-        IsTrue (state_of e.1).is_clean → (left : Image) → (state_of e.1).may_leave left →
-        StandsFor (state_of files).may_leave (image files) left) }
-{
-    if !is_new {
-        let rows = match files.read_catalog() {
-            Ok(rows) => rows,
-            Err(error) => return Err((error.into(), files)),
-        };
-        if rows.len() > LISTED {
-            return Err((OpenError::NotAccounts, files));
-        }
-        if rows.len() == LISTED {
-            match files.open() {
-                Ok(store) => return Ok(store),
-                Err((error, left)) => return Err((error.into(), left)),
-            }
-        }
-    }
-    match files.create() {
-        Ok(store) => Ok(store),
-        Err((error, left)) => Err((error.into(), left)),
-    }
-}
-
-// Opens two files, or makes the table in them. An error comes with the files.
+// Opens two files, or makes the table in them if they have a database without tables, such as a first open that was cut off leaves.
+// One that lists more than one thing is refused. An error comes with the files.
 pub(crate) fn open_files<D: Disk + Drop>(
     alloc: Global,
     mut files: Files<D>,
     seed: u64,
 ) -> Result<FileStore<D>, (OpenError, Files<D>)>
     requires { IsTrue (D.Disk.is_usable files.log) × IsTrue (D.Disk.is_usable files.db) }
-    ensures fresh { IfOk result (λ it. IsClean (view it) → table.IsUnwritten (view it)) }
-    ensures honest { IfOk result (λ it. IsClean (view it) → AreClean D.Disk files.log files.db) }
-    ensures found { IfOk result (λ it. IsClean (view it) →
-        FoundIn 4096 (seen_image D.Disk files.log files.db) ((view it).committed 0)) }
+    ensures opened { IfOk result (λ it. IsClean (view it) →
+        IsUnwritten (view it) × AreClean D.Disk files.log files.db
+        × FoundIn 4096 (seen_image D.Disk files.log files.db) ((view it).committed 0)) }
     ensures error { IfErr result (λ e. IsOfDatabase e.0) }
-    ensures falls { IfErr result (λ e.
-        AreClean D.Disk e.1.log e.1.db → AreClean D.Disk files.log files.db) }
     ensures left { IfErr result (λ e.
-        AreUnharmed D.Disk (files.log, files.db) (e.1.log, e.1.db)) }
+        (AreClean D.Disk e.1.log e.1.db → AreClean D.Disk files.log files.db)
+        × AreUnharmed D.Disk (files.log, files.db) (e.1.log, e.1.db)) }
 {
     let Some(size) = PageSize::new(PAGE) else {
         return Err((OpenError::NotAccounts, files));
@@ -139,13 +93,28 @@ pub(crate) fn open_files<D: Disk + Drop>(
         Ok(pager) => pager,
         Err(AllocFailed { value }) => return Err((OpenError::OutOfMemory, value)),
     };
-    let unopened = match Unopened::new(alloc, pager, &[ACCOUNT]) {
+    let mut unopened = match Unopened::new(alloc, pager, &[ACCOUNT]) {
         Ok(unopened) => unopened,
         Err(AllocFailed { value }) => return Err((OpenError::OutOfMemory, value.close())),
     };
-    match attach(unopened, is_new) {
+    if !is_new {
+        let rows = match unopened.read_catalog() {
+            Ok(rows) => rows,
+            Err(error) => return Err((error.into(), unopened.close())),
+        };
+        if rows.len() > LISTED {
+            return Err((OpenError::NotAccounts, unopened.close()));
+        }
+        if rows.len() == LISTED {
+            match unopened.open() {
+                Ok(store) => return Ok(store),
+                Err((error, left)) => return Err((error.into(), left.close())),
+            }
+        }
+    }
+    match unopened.create() {
         Ok(store) => Ok(store),
-        Err((error, left)) => Err((error, left.close())),
+        Err((error, left)) => Err((error.into(), left.close())),
     }
 }
 

@@ -1,24 +1,104 @@
-use Rattle.argon2_store.proofs.Imports.{arith, rules, subst₂, view, FoundIn}
-use Rattle.argon2_store.proofs.OpenLemmas.{image_is, is_honest, probed, unharmed, was_clean}
+use Rattle.argon2_store.proofs.Imports.{arith, rules, [], ◌∷◌, ap, inl, inr, ◌≡◌, sym, length, subst, subst₂, ◌∙◌, IsTrue, ∥∥₁_map, Recovers, recovers_once, clean_of}
+use Rattle.argon2_store.proofs.Imports.{schema_of, state, view, kept_schema, state_of, image, account, Image, IsUnstarted, FoundIn, nil_from_length, refl, wanted_by, ListsOne}
+use Rattle.sqlite_store.specs.Unopened as below
+use Rattle.argon2_store.proofs.OpenLemmas.{after, as_before, bare, fresh, image_is, is_honest, made, probed, unharmed, was_clean}
 use Rattle.argon2_store.proofs.opening.open_files.Goals as goal
+use Rattle.argon2_store.proofs.opening.open_files.Goals.{After-create, then-not-is_new+in-Ok-read_catalog+else-len-gt-LISTED+else-len-eq-LISTED, else-not-is_new}
 
-pub attach-requires-clause-blank : goal.attach-requires-clause-blank
-attach-requires-clause-blank g c =
-    probed c.probe_blank.ensures.log c.probe_blank.ensures.db c.in-Ok-new-2.unopened (search rules) _ _ (search rules)
-    c.in-Ok.ensures.ok
+-- the files list nothing, or there is no database yet
+looked : (g : _) (c : After-create g) → let it = c.in-Ok-new-2.unopened in (wanted_by c.if-not-is_new.unopened ≡ account ∷ [])
+    × (IsTrue (state_of c.if-not-is_new.unopened).is_clean → IsTrue (state_of it).is_clean
+    × ((state_of c.if-not-is_new.unopened).page_size ≡ (state_of it).page_size)
+    × ∥ IsUnstarted (state_of it).page_size (image it) ∥₁
+    × ((left : Image) → below.IsAsBefore c.if-not-is_new.unopened left → below.IsAsBefore it left))
+looked g c = elim c.if-not-is_new.branch [
+  | then-not-is_new+in-Ok-read_catalog+else-len-gt-LISTED+else-len-eq-LISTED w ↦ rw (w.unopened-is) (
+    w.read_catalog.ensures.schema ∙ search rules,
+    λ clean.
+        let kept = w.read_catalog.ensures.kept clean in
+        let listed = w.in-Ok-read_catalog.ensures.ok clean in (
+          search rules,
+          kept.size,
+          bare _ _ _ listed kept.size (nil_from_length w.in-Ok-read_catalog.rows.items (search rules)),
+          after _ _ _ listed kept.size kept,
+        ),
+  )
+  | else-not-is_new w ↦ rw (w.unopened-is) (
+    search rules,
+    λ clean. (clean, refl, ∣ inl (probed c.probe_blank.ensures.log c.probe_blank.ensures.db c.in-Ok-new-2.unopened (search rules) _ _
+        (search rules) c.in-Ok.ensures.ok (search rules) clean) ∣₁, λ left is. is),
+  )
+]
 
-pub returns-in-Ok-attach-clause-found : goal.returns-in-Ok-attach-clause-found
-returns-in-Ok-attach-clause-found g c clean =
-    subst₂ (λ n i. FoundIn n i ((view c.in-Ok-attach.store).committed 0)) (search rules) (search (arith, image_is))
-    (c.in-Ok-attach.ensures.found clean)
+pub returns-in-Err-read_catalog-clause-left : goal.returns-in-Err-read_catalog-clause-left
+returns-in-Err-read_catalog-clause-left g c = (
+  λ clean. search (arith, was_clean, is_honest),
+  unharmed c.probe_blank.ensures.log c.probe_blank.ensures.db c.in-Ok-new-2.unopened (search rules) (search rules) c.read_catalog.new.self _
+      c.close-in-Err-read_catalog.ensures (λ sized clean left may.
+      as_before c.in-Ok-new-2.unopened sized left ((c.read_catalog.ensures.kept clean).crash left may)),
+)
 
-pub returns-in-Err-attach-clause-left : goal.returns-in-Err-attach-clause-left
-returns-in-Err-attach-clause-left g c =
-    unharmed c.probe_blank.ensures.log c.probe_blank.ensures.db c.in-Ok-new-2.unopened
-    (search rules) (search rules) c.in-Err-attach.left _ c.close-in-Err-attach.ensures c.in-Err-attach.ensures.left
+pub returns-then-len-gt-LISTED-clause-left : goal.returns-then-len-gt-LISTED-clause-left
+returns-then-len-gt-LISTED-clause-left g c = (
+  λ clean. search (arith, was_clean, is_honest),
+  unharmed c.probe_blank.ensures.log c.probe_blank.ensures.db c.in-Ok-new-2.unopened (search rules) (search rules) c.read_catalog.new.self _
+      c.close-then-len-gt-LISTED.ensures (λ sized clean left may.
+      as_before c.in-Ok-new-2.unopened sized left ((c.read_catalog.ensures.kept clean).crash left may)),
+)
 
-pub returns-in-Ok-attach-clause-honest : goal.returns-in-Ok-attach-clause-honest
-returns-in-Ok-attach-clause-honest g c clean = search (arith, was_clean)
+pub returns-in-Err-open-clause-left : goal.returns-in-Err-open-clause-left
+returns-in-Err-open-clause-left g c = (
+  λ clean. search (arith, was_clean, is_honest),
+  unharmed c.probe_blank.ensures.log c.probe_blank.ensures.db c.in-Ok-new-2.unopened (search rules) (search rules) c.in-Err-open.left _
+      c.close-in-Err-open.ensures (λ sized clean left may.
+      let was = c.in-Err-open.ensures.falls clean in
+      let kept = c.read_catalog.ensures.kept was in
+      as_before c.in-Ok-new-2.unopened sized left (after _ _ _ (c.in-Ok-read_catalog.ensures.ok was) kept.size kept left
+      ((c.in-Err-open.ensures.unharmed clean).crash left may))),
+)
 
-pub returns-in-Err-attach-clause-falls : goal.returns-in-Err-attach-clause-falls
-returns-in-Err-attach-clause-falls g c clean = search (arith, was_clean, is_honest)
+pub returns-in-Ok-open-clause-opened : goal.returns-in-Ok-open-clause-opened
+returns-in-Ok-open-clause-opened g c clean =
+    let now = clean_of _ clean in
+    let store = c.in-Ok-open.store in
+    let was = c.in-Ok-open.ensures.honest now in
+    let size = (c.read_catalog.ensures.kept was).size in
+    let sized = (c.in-Ok-open.ensures.kept now).size ∙ size in
+    let wants : wanted_by c.in-Ok-new-2.unopened ≡ account ∷ [] = search rules in
+    let schema : kept_schema store.saved (schema_of store) ≡ account ∷ [] = search arith in
+    let listed = c.in-Ok-read_catalog.ensures.ok was in
+    let once = recovers_once _ _ _ _ listed.again (rw size at (c.in-Ok-open.ensures.found now)) in (
+      search (arith, fresh),
+      search (arith, was_clean),
+      subst₂ (λ n i. FoundIn n i ((view store).committed 0)) (search rules) (search (arith, image_is)) (inl (
+        (state store).committed,
+        subst (Recovers _ _) once listed.found,
+        ∥∥₁_map (store.stored (c.in-Ok-open.ensures.ready.is_open clean)) (λ stored. rw (sized, schema) at stored.ours.file),
+        grind arith,
+        subst (ListsOne _) once (ap length (sym listed.lists) ∙ search rules),
+      )),
+    )
+
+pub returns-in-Ok-create-clause-opened : goal.returns-in-Ok-create-clause-opened
+returns-in-Ok-create-clause-opened g c clean =
+    let now = clean_of _ clean in
+    let (wants, bare) = looked g (goal.at.returns-in-Ok-create-clause-opened g c).After-create in
+    let (was, size, none, before) = bare (c.in-Ok-create.ensures.honest now) in (
+      search (arith, fresh),
+      search (arith, was_clean),
+      subst₂ (λ n i. FoundIn n i ((view c.in-Ok-create.store).committed 0)) (search rules) (search (arith, image_is))
+          (inr (none, c.in-Ok-create.ensures.empty now 0 (omega arith))),
+    )
+
+pub returns-in-Err-create-clause-left : goal.returns-in-Err-create-clause-left
+returns-in-Err-create-clause-left g c =
+    let (wants, bare) = looked g (goal.at.returns-in-Err-create-clause-left g c).After-create in (
+      λ clean. search (arith, was_clean, is_honest),
+      unharmed c.probe_blank.ensures.log c.probe_blank.ensures.db c.in-Ok-new-2.unopened (search rules) (search rules) c.in-Err-create.left _
+          c.close-in-Err-create.ensures (λ sized clean left may.
+          let (was, size, none, before) = bare (c.in-Err-create.ensures.falls clean) in
+          elim ((c.in-Err-create.ensures.unharmed clean).crash left may) [
+            | inl is ↦ as_before c.in-Ok-new-2.unopened sized left (before left is)
+            | inr way ↦ made c.in-Ok-new-2.unopened c.if-not-is_new.unopened sized size left wants none way
+          ]),
+    )

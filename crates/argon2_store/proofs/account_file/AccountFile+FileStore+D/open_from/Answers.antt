@@ -19,7 +19,7 @@ returns-in-Ok-true-load-clause-ready g c =
             (quiet_itself over_file c.load.new.store) clean (c.in-Ok-true-load.ensures.«open» clean);
       },
       lines,
-      λ clean. (has.0, subst₂ (FoundIn 4096) (search (arith, seen_same)) (rows clean) (c.in_ok-store.ensures.found (search arith))),
+      λ clean. (has.0, subst₂ (FoundIn 4096) (search (arith, seen_same)) (rows clean) ((c.in_ok-store.ensures.opened (search arith)).2)),
       λ clean damaged. search (arith, halves),
     )
 
@@ -30,8 +30,8 @@ returns-in-Err-clause-err g c =
 pub returns-in_err-store-clause-err : goal.returns-in_err-store-clause-err
 returns-in_err-store-clause-err g c =
     rw (err_is c.from_residual.result _ c.from_residual.ensures.1)
-    (of_database (search rules) (λ clean damaged. let was = c.in_err-store.ensures.falls clean in search (arith, halves))
-    (unharmed_then c.args.files.db _ c.is_damaged.ensures.same c.in_err-store.ensures.left))
+    (of_database (search rules) (λ clean damaged. let was = c.in_err-store.ensures.left.0 clean in search (arith, halves))
+    (unharmed_then c.args.files.db _ c.is_damaged.ensures.same c.in_err-store.ensures.left.1))
 
 -- a row is no account, or the rows can't be read
 pub returns-clause-err : goal.returns-clause-err
@@ -39,16 +39,16 @@ returns-clause-err g c =
     let now = λ (clean : AreClean g.D.Disk c.close.result.log c.close.result.db).
     no_doubt _ (is_honest c.load.new.store.pool _ (sym c.close.ensures) clean) in
     let held = λ (clean : AreClean g.D.Disk c.close.result.log c.close.result.db).
-    c.in_ok-store.ensures.honest (omega (arith, c.load.ensures.quiet.clean, now clean)) in
+    (c.in_ok-store.ensures.opened (omega (arith, c.load.ensures.quiet.clean, now clean))).1 in
     let unharmed = unharmed_then c.args.files.db _ c.is_damaged.ensures.same
     (unharmed_by_reads (c.is_damaged.new.log, c.args.files.db) c.in_ok-store.store c.load.new.store _ g.met.D.Disk.seen_may_stay
-    c.load.ensures.quiet c.in_ok-store.ensures.fresh c.in_ok-store.ensures.found c.close.ensures) in
+    c.load.ensures.quiet c.in_ok-store.ensures.opened c.close.ensures) in
     elim c.match-load.branch [
       | in-Ok-false-load w ↦ rw w.error-is record {
         kind = inl refl;
         row = λ is clean names lines holds.
             let found = subst (λ i. FoundIn 4096 i ((view c.in_ok-store.store).committed 0))
-            (seen_same c.args.files.db c.is_damaged.ensures.same) (c.in_ok-store.ensures.found (search arith)) in
+            (seen_same c.args.files.db c.is_damaged.ensures.same) ((c.in_ok-store.ensures.opened (search arith)).2) in
             w.in-Ok-false-load.ensures.refused w.in-Ok-false-load.field-0-test (now clean) names holds.0 lines
             (sym ((near_found _ _ found).0 _ holds.1));
         damaged = λ is. absurd cc;
