@@ -6,7 +6,7 @@ use Rattle.std.proofs.lemmas.Result.{on_ok_weaker}
 use Rattle.std.proofs.lemmas.List.Sorted.{Contains-permutation, IsPermutation-map, IsPermutation-sym}
 use Rattle.sqlite_trees.proofs.ListLemmas.{along_permutation}
 use Rattle.argon2_rows.proofs.RowLemmas.{changed_apart, get-at, get-changed}
-use Rattle.argon2_rows.proofs.TableLemmas.{Settled, cause_map, changes_of, leaves_quiet, quiet_itself, quiet_then, taken_back, writes_less}
+use Rattle.argon2_rows.proofs.TableLemmas.{Settled, cause_map, changes_of, leaves_quiet, quiet_itself, quiet_then, taken_back}
 
 pub add_last : (es : List (List ℕ × List ℕ)) (before mid after : Texts) (e : List ℕ × List ℕ) → AddsAll before es mid
     → get mid e.0 ≡ None → after ≡ changed mid e.0 (Some e.1) → AddsAll before (es ++ e ∷ []) after
@@ -65,7 +65,8 @@ module _ {S : Type 0} (g : Ghosts S) where
     quiet_then g old mid new wrote.quiet quiet,
   )
   undone old mid new {before} es (Store e) settled was_open has wrote first kept blame quiet =
-      (before, λ clean. inl refl, tt, changes_of settled was_open (Err e) (Err e) has has.0 (writes_less e wrote wrote.cause) (search arith))
+      let wrote_none : Writes g old mid before before (Any IsLong es) (Err e) = search arith in
+      (before, λ clean. inl refl, tt, changes_of settled was_open (Err e) (Err e) has has.0 wrote_none (search arith))
 
   -- after others were written and taken back
   module _ (old mid : S) (before : Texts) (had : HasRows g mid before) (quiet : StaysQuiet g old mid) where

@@ -18,11 +18,7 @@ on_both : {T E P Q R : Type 0} (W : Type 0) (r : Result T E) → MatchResult r (
     → OnOk r R
 on_both W r p q then = grind arith
 
--- ---- views
-
--- a store that is sound is open
-pub open_if_sound : (v : View) → (v.is_open ≡ false → IsTrue v.is_broken) → v.is_broken ≡ false → IsTrue v.is_open
-open_if_sound v broken sound = grind arith
+-- ---- what a crash leaves
 
 -- while a store is open, a crash leaves its last commit
 abbrev pub Settled : {S : Type 0} → Ghosts S → Type 0
@@ -78,12 +74,6 @@ module _ {S : Type 0} {g : Ghosts S} where
   pub writes_more : {a b : S} {x y : Texts} {P Q : Type 0} {r : Result (Unit {0}) StoreError} → Writes g a b x y P r → (P → Q)
       → Writes g a b x y Q r
   writes_more wrote more = search (arith, cause_map)
-
-  -- if rows are not all written, nothing is said of the names
-  pub writes_less : {a b : S} {x y z : Texts} {P Q : Type 0} {r : Result (Unit {0}) StoreError} (e : StoreError)
-      → Writes g a b x y P r → (IsHonest g b → IsDue g a b Q e)
-      → Writes g a b x z Q (Err e)
-  writes_less e wrote cause = search arith
 
   -- what finishing answers has the cause of what failed in writing, or in the commit
   cause_of : {a b c : S} {x y : Texts} {P : Type 0} (done result : Result (Unit {0}) StoreError) → Writes g a b x y P done
@@ -144,4 +134,4 @@ module _ {S : Type 0} {g : Ghosts S} where
         }
 
 -- what no call changes
-pub ruleset kept = (quiet_itself, quiet_then, shape_of, keeps_index, open_if_sound)
+pub ruleset kept = (quiet_itself, quiet_then, shape_of, keeps_index)
