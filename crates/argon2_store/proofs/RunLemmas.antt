@@ -35,19 +35,12 @@ texts_of_events ((edits, Err e) ∷ older) names (before, earlier, step) name =
 
 -- ---- calls
 
--- what a call made of the names, and what may come late of it
+-- what a call made of the names
 its_events : (before after : Texts) (edits : List Edit) (result : Result (Unit {0}) FileError) → Answers before edits result after
     → AreMade before (events_of (makes edits result)) after
 its_events before after edits (Ok x) is = (before, refl, is)
 its_events before after edits (Err e) is =
     elim (cases_Bool (is_refusal e)) [ inl refused ↦ rw refused (before, refl, is) | inr of_file ↦ rw of_file is.1 ]
-
-its_late : (before after left : Texts) (edits : List Edit) (result : Result (Unit {0}) FileError)
-    → Answers before edits result after
-    → (left ≡ after) ⊎ (IsErrAnd result (λ e. is_refusal e ≡ false) × (names_after edits before ≡ Ok left))
-    → (left ≡ after) ⊎ ((late : List FileEvent) × IsLateOf (makes edits result) late × AreMade after late left)
-its_late before after left edits result answers is =
-    elim is [ inl same ↦ inl same | inr late ↦ inr ((edits, Ok tt) ∷ [], grind arith, (after, refl, grind arith)) ]
 
 module _ {S : Type 0} {g : Ghosts S} (settled : Settled g) (first : Texts) where
   -- what these events made of the first names, and what a crash leaves: that, or some that come late too
@@ -104,8 +97,10 @@ module _ {S : Type 0} {g : Ghosts S} (settled : Settled g) (first : Texts) where
         let (after, does) = serve before.names before.has in
         reaches (IsLateOf (makes edits result)) _ _ after does.has does.honest
         (λ clean. its_events before.names after edits result (does.answers clean))
-        (λ clean is_open db found. let left = does.crash clean is_open db found in
-        (left.0, left.1, its_late before.names after _ edits result (does.answers clean) left.2))
+        (λ clean is_open db found. let (left, held, is) = does.crash clean is_open db found in (left, held, elim is [
+          | inl same ↦ inl same
+          | inr late ↦ let made = does.answers clean in inr ((edits, Ok tt) ∷ [], grind arith, (after, refl, grind arith))
+        ]))
         (λ clean is_closed. let (shut, same) = does.closed (does.honest clean) is_closed in search arith)
     one_more (reads error) stay =
         let does = stay before.names before.has in
