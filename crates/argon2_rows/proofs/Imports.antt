@@ -15,11 +15,11 @@ pub use Rattle.std.specs.Str.{bytes_eq, chars}
 pub use Rattle.sqlite_value.specs.Keys.{entry_cmp, plain, prefix_cmp}
 pub use Rattle.sqlite_value.specs.Order.{Row, column, number, row_cmp}
 pub use Rattle.sqlite_trees.specs.Tree.{IsIndex, Trees, from_key, insert_entry, order_of, remove_entry, sought}
-pub use Rattle.sqlite_trees.specs.View.{Advances, IsOrdered, IsStorable, KeepsSchema, View, is_int, with_cursor, HasCause, doubt}
+pub use Rattle.sqlite_trees.specs.View.{Advances, IsStorable, KeepsSchema, View, is_int, with_cursor, HasCause, doubt}
 pub use Rattle.sqlite_trees.specs.declared.store.Direction.TheVariants.{Forward}
 pub use Rattle.sqlite_store.proofs.RowLemmas.{from_key-none}
 pub use Rattle.argon2_rows.specs.Names.{AddsAll, AddsEach, Texts, changed, entry_of, Bor, StoredText, AddError, Store, Taken}
 pub use Rattle.argon2_rows.specs.Rows.{AreLines, AreTexts, AreLinesOf, AreWritten, IsLineOf, HasNoneAfter, IsAccount, IsAfterAll, IsFoundAs, breaks_line, row_of, rows_of, shown_char, Keeps}
 pub use Rattle.argon2_rows.specs.Rows.{Appends, Text, Written, Breaks, Failed}
-pub use Rattle.argon2_rows.specs.Table.{Changes, EndsRead, Finishes, HasBegun, HasFailed, HasRows, HasSome, IsUnwritten, IsHonest, IsKept, IsLong, IsOpen, CrashLeaves, Sees, StaysQuiet, AddsNames, Writes}
+pub use Rattle.argon2_rows.specs.Table.{Changes, EndsRead, Finishes, HasBegun, HasFailed, HasRows, HasSome, IsHonest, IsKept, IsLong, IsOpen, CrashLeaves, Sees, StaysQuiet, AddsNames, Writes}
 pub use Rattle.argon2_rows.specs.Table.{WritesAll, done_of, written_of, IsDue, IsTold, StoreError, Io, Index, Ghosts, MoreFaults}

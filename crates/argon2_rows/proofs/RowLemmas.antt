@@ -1,10 +1,10 @@
 -- Maps of names, and their rows in a tree: one more, one less, sought by a name, and read one by one.
-use Rattle.argon2_rows.proofs.Imports.{AllByRecursion, eq_by_cmp, IfSome, IsUtf8, AreTexts, changed, subst, ◌≡◌, ◌≢◌, ℕ, List, Option, Some, None, Bool, true, false, cond, refl, sym, ap, ◌∙◌}
+use Rattle.argon2_rows.proofs.Imports.{AllByRecursion, eq_by_cmp, IfSome, IsUtf8, AreTexts, changed, ◌≡◌, ◌≢◌, ℕ, List, Option, Some, None, Bool, true, false, cond, refl, sym, ap, ◌∙◌}
 use Rattle.argon2_rows.proofs.Imports.{bytes_eq-Decides, nat_list_cmp_total, get, get-insert, get-remove, insert, remove, same_entries_map, same_map, slice_cmp-IsAntisymmetric, Text}
 use Rattle.argon2_rows.proofs.Imports.{nat_cmp-IsAntisymmetric, bytes_eq, Texts, arith, [], ◌∷◌, map, T, not, Ordering, All, tied_itself, slice_cmp, get-entries, entries, entries-insert}
 use Rattle.argon2_rows.proofs.Imports.{entries_sorted, find, put, is_sorted, nat_cmp, ordering_then, plain, entry_cmp, Row, column, number, row_cmp, insert_entry, remove_entry, IsStorable, is_int}
-use Rattle.argon2_rows.proofs.Imports.{row_of, rows_of, IsLong, IsTrue, prefix_cmp, Index, Forward, from_key, order_of, sought, View, Advances, with_cursor, IsAfterAll, IsFoundAs, Ghosts, IsIndex}
-use Rattle.argon2_rows.proofs.Imports.{IsOrdered, IsAccount, AreLines, ◌↔◌, Trees, HasRows, IsUnwritten, IsHonest, entries-from_sorted, from_sorted, get-from_sorted, is_gt, alike_right, ⊤}
+use Rattle.argon2_rows.proofs.Imports.{row_of, rows_of, IsLong, IsTrue, prefix_cmp, Index, Forward, from_key, order_of, sought, View, Advances, with_cursor, IsAfterAll, IsFoundAs, IsIndex}
+use Rattle.argon2_rows.proofs.Imports.{IsAccount, AreLines, ◌↔◌, entries-from_sorted, from_sorted, get-from_sorted, is_gt, alike_right, ⊤}
 use Rattle.argon2_rows.proofs.Imports.{from_key-none, doubt}
 use Rattle.std.specs.FinMap.Entries.{below_all}
 use Rattle.sqlite_value.proofs.OrderLemmas.{value_cmp-Text}
@@ -246,21 +246,8 @@ module _ {first now next : View} {met last : Row} (reading : IsReading first now
       grind arith
 
 -- rows that were read are those of names, unless the disk lied
-known : (clean : Bool) (rows : List Row) → (doubt clean ≡ 0 → IsIndex plain rows × Follow [] rows)
+pub known : (clean : Bool) (rows : List Row) → (doubt clean ≡ 0 → IsIndex plain rows × Follow [] rows)
     → (names : Texts) × AreTexts names × AreLines names × (doubt clean ≡ 0 → rows_of names ≡ rows)
 known true rows is =
     let it = its_names [] rows (is (no_doubt true refl)).0 (is (no_doubt true refl)).1 in (it.0, it.1, it.2, λ clean. it.3)
 known false rows is = let it = its_names [] [] tt tt in (it.0, it.1, it.2, λ clean. absurd (never_clean clean))
-
--- all rows are read
-pub all_read : {S : Type 0} (g : Ghosts S) (old mid new : S) (last met : Row)
-    → (IsHonest g new → IsUnwritten (g.view old)) → (IsHonest g new → IsOrdered (g.view old).shape (g.view old).trees)
-    → (IsHonest g new → IsReading (g.view old) (g.view mid) last)
-    → (IsHonest g new → Advances (g.view mid) (g.view new) 0 met false)
-    → (names : Texts) × AreLines names × HasRows g new names × (IsHonest g new → (g.view old).committed 0 ≡ rows_of names)
-all_read g old mid new last met fresh ordered reading ended =
-    let (names, texts, lines, at) = known (g.view new).is_clean ((g.view old).trees 0) (λ clean.
-    let read = reading clean in
-    let none = same_Some _ _ (sym read.left ∙ (ended clean).0) in
-    (rw (fresh clean).indexed at (ordered clean 0), read.all.0 (subst (Follow last) (sym none) tt))) in
-    (names, lines, (texts, (grind arith)), λ clean. sym (ap (λ (t : Trees). t 0) (fresh clean).settled) ∙ sym (at clean))

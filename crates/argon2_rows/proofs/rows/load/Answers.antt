@@ -1,5 +1,6 @@
-use Rattle.argon2_rows.proofs.Imports.{arith, ap, ◌∙◌, Trees}
-use Rattle.argon2_rows.proofs.RowLemmas.{all_read, begin, is_next}
+use Rattle.argon2_rows.proofs.Imports.{arith, ap, ◌∙◌, sym, subst, IsHonest, Trees}
+use Rattle.std.proofs.lemmas.Option.{same_Some}
+use Rattle.argon2_rows.proofs.RowLemmas.{Follow, begin, is_next, known}
 use Rattle.argon2_rows.proofs.rows.load.Goals as goal
 
 pub loop-init : goal.loop-init
@@ -7,10 +8,13 @@ loop-init g c = search (arith, begin)
 
 pub returns-then-not-branch-clause-found : goal.returns-then-not-branch-clause-found
 returns-then-not-branch-clause-found g c ended =
-    all_read g.S.Store c.args.store.now c.loop.store c.next.new.self c.loop.last c.next.new.row
-    (λ clean. c.requires (search arith))
-    (λ clean. g.met.S.Store.ordered c.args.store.now (c.requires (search arith)).unbroken)
-    (λ clean. c.loop.invariant.2 (search arith)) (λ clean. rw c.if-not-branch.true at (c.in_ok-next.ensures.ok clean))
+    let fresh = λ (clean : IsHonest g.S.Store c.next.new.self). c.requires (search arith) in
+    let (names, texts, lines, at) = known (g.S.Store.view c.next.new.self).is_clean ((g.S.Store.view c.args.store.now).trees 0) (λ clean.
+    let first = fresh clean in
+    let read = c.loop.invariant.2 (search arith) in
+    let none = same_Some _ _ (sym read.left ∙ (rw c.if-not-branch.true at (c.in_ok-next.ensures.ok clean)).0) in
+    (rw first.indexed at (g.met.S.Store.ordered c.args.store.now first.unbroken 0), read.all.0 (subst (Follow c.loop.last) (sym none) tt))) in
+    (names, lines, (texts, search arith), λ clean. sym (ap (λ (t : Trees). t 0) (fresh clean).settled) ∙ sym (at clean))
 
 pub returns-then-not-is_account-clause-refused : goal.returns-then-not-is_account-clause-refused
 returns-then-not-is_account-clause-refused g c refused clean names texts lines is =
