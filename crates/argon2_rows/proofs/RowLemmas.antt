@@ -2,10 +2,9 @@
 use Rattle.argon2_rows.proofs.Imports.{AllByRecursion, eq_by_cmp, IfSome, IsUtf8, AreTexts, changed, ◌≡◌, ◌≢◌, ℕ, List, Option, Some, None, Bool, true, false, cond, refl, sym, ap, ◌∙◌}
 use Rattle.argon2_rows.proofs.Imports.{bytes_eq-Decides, nat_list_cmp_total, get, get-insert, get-remove, insert, remove, same_entries_map, same_map, slice_cmp-IsAntisymmetric, Text}
 use Rattle.argon2_rows.proofs.Imports.{nat_cmp-IsAntisymmetric, bytes_eq, Texts, arith, [], ◌∷◌, map, T, not, Ordering, All, tied_itself, slice_cmp, get-entries, entries, entries-insert}
-use Rattle.argon2_rows.proofs.Imports.{entries_sorted, find, put, is_sorted, nat_cmp, ordering_then, plain, entry_cmp, Row, column, number, row_cmp, insert_entry, remove_entry, IsStorable, is_int}
-use Rattle.argon2_rows.proofs.Imports.{row_of, rows_of, IsLong, IsTrue, prefix_cmp, Index, Forward, from_key, order_of, sought, View, Advances, with_cursor, IsAfterAll, IsFoundAs, IsIndex}
-use Rattle.argon2_rows.proofs.Imports.{IsAccount, AreLines, ◌↔◌, entries-from_sorted, from_sorted, get-from_sorted, is_gt, alike_right, ⊤}
-use Rattle.argon2_rows.proofs.Imports.{from_key-none, doubt}
+use Rattle.argon2_rows.proofs.Imports.{entries_sorted, find, put, is_sorted, nat_cmp, ordering_then, plain, entry_cmp, Row, column, number, row_cmp, insert_entry, remove_entry, IsStorable}
+use Rattle.argon2_rows.proofs.Imports.{is_int, row_of, rows_of, IsLong, IsTrue, prefix_cmp, Index, Forward, from_key, order_of, sought, View, Advances, with_cursor, IsAfterAll, IsFoundAs}
+use Rattle.argon2_rows.proofs.Imports.{IsIndex, IsAccount, AreLines, ◌↔◌, entries-from_sorted, from_sorted, get-from_sorted, is_gt, alike_right, ⊤, from_key-none, doubt}
 use Rattle.std.specs.FinMap.Entries.{below_all}
 use Rattle.sqlite_value.proofs.OrderLemmas.{value_cmp-Text}
 use Rattle.sqlite_value.proofs.KeyLemmas.{entry_cmp_total, entry_cmp-plain}
