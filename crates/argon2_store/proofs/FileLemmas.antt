@@ -1,12 +1,11 @@
 -- What a call on an account file does if it is refused, writes nothing, or makes its edits.
-use Rattle.argon2_store.proofs.Imports.{arith, zero, suc, ◌≡◌, ◌⊎◌, ◌<◌, ◌∷◌, [], inl, inr, ℕ, List, Option, Some, None, Result, Ok, Err, Bool, true, false, refl}
-use Rattle.argon2_store.proofs.Imports.{sym, subst, ◌∙◌, ap, IsTrue, get, Any, HasFailed, option_map, string_bytes, ◌↔◌, IfErr, IsErrAnd, IsSomeAnd, OnOk, length}
-use Rattle.argon2_store.proofs.Imports.{length-map, get_or-map, iff_false, true_from_ne_false, StoreError, Ghosts, Texts, IfOk, IfSome, AddsNames, on_ok_weaker}
-use Rattle.argon2_store.proofs.Imports.{Answers, error_of, IsClosed, IsErrorAt, Makes, Serves, AddsAll, IsFirstTaken, Stays, database_of, read_of, call_error}
-use Rattle.argon2_store.proofs.Imports.{Changes, IsHonest, IsLong, IsOpen, CrashLeaves, StaysQuiet, changed, AccountFile, FileError, Closed, NameTaken, OutOfMemory}
-use Rattle.argon2_store.proofs.Imports.{String, IsSome, Edit, adding, IsTooLong, additions, gives, is_refusal, names_after, name_of, refusal, HasCause, HasFailedBy}
-use Rattle.argon2_store.proofs.Imports.{HasNames, NamesStay, lines_by, read_by, IsTold, both_ways, changed_back, Keeps, Settled, err_is, shape_of}
-use Rattle.argon2_store.proofs.Imports.{leaves_quiet, on_all, quiet_itself}
+use Rattle.argon2_store.proofs.Imports.{arith, zero, suc, ◌≡◌, ◌⊎◌, ◌<◌, ◌∷◌, [], inl, inr, ℕ, List, Option, Some, None, Result, Ok, Err, Bool, true, false, refl, sym, subst, ◌∙◌, ap}
+use Rattle.argon2_store.proofs.Imports.{IsTrue, get, Any, HasFailed, option_map, string_bytes, ◌↔◌, IfErr, IsErrAnd, IsSomeAnd, OnOk, length, length-map, get_or-map, iff_false}
+use Rattle.argon2_store.proofs.Imports.{true_from_ne_false, StoreError, Ghosts, Texts, IfOk, IfSome, AddsNames, on_ok_weaker, Answers, error_of, IsClosed, IsErrorAt, Makes, Serves, AddsAll}
+use Rattle.argon2_store.proofs.Imports.{IsFirstTaken, Stays, database_of, read_of, call_error, Changes, IsHonest, IsLong, IsOpen, CrashLeaves, StaysQuiet, changed, AccountFile, FileError}
+use Rattle.argon2_store.proofs.Imports.{Closed, NameTaken, OutOfMemory, String, IsSome, Edit, adding, IsTooLong, additions, gives, is_refusal, names_after, name_of, refusal, HasCause}
+use Rattle.argon2_store.proofs.Imports.{HasFailedBy, HasNames, NamesStay, lines_by, read_by, IsTold, both_ways, changed_back, Keeps, Settled, err_is, shape_of, leaves_quiet, on_all}
+use Rattle.argon2_store.proofs.Imports.{quiet_itself}
 use Rattle.argon2_rows.specs.declared.view.Written.{Written}
 use Rattle.sqlite_trees.specs.View.{HasCause as Cause, View}
 
@@ -55,12 +54,6 @@ taken_made [] before k (mid, adds, within, has) = absurd (omega (arith, within))
 taken_made (e ∷ es) before zero (mid, is, within, has) = let there = subst (λ (m : Texts). IsSome (get m e.0)) is has in grind arith
 taken_made (e ∷ es) before (suc k) (mid, (none, adds), within, has) =
     rw none (taken_made es _ k (mid, adds, omega (arith, within), has))
-
--- a row that is too long is one of an edit's
-pub long_additions : (es : List (List ℕ × List ℕ)) (before : Texts) → Any IsLong es → Any (IsTooLong before) (additions es)
-long_additions es before (i, e, within, is, long) =
-    let add = λ (e : List ℕ × List ℕ). adding e.0 e.1 in
-    (i, add e, rw length-map within, get_or-map add es i e (add e) within ∙ ap add is, long)
 
 -- ---- a file whose test says so is closed, or is not
 
@@ -154,7 +147,9 @@ module _ {S : Type 0} {g : Ghosts S} {old mid : AccountFile S g} {before : Texts
       → AddsNames g (database_of mid) (database_of new) before es done → (r : Result (Unit {0}) FileError) → r ≡ read_of done
       → (after : Texts) × Makes (additions es) r old new before after
   adds_names es done (to, may, all, change) r is =
-      writes_all (λ clean. long_additions es before)
+      let add = λ (e : List ℕ × List ℕ). adding e.0 e.1 in
+      writes_all (λ clean (i, e, within, is, long).
+      (i, add e, rw length-map within, get_or-map add es i e (add e) within ∙ ap add is, long))
       (λ clean. elim (may clean) [ inl same ↦ inl same | inr adds ↦ inr (adds_made es before to adds) ]) done
       (on_ok_weaker done (λ f clean. adds_made es before to (f clean)) all) change r is
 

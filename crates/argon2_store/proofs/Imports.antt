@@ -1,7 +1,6 @@
 -- The words that the proofs of this crate use.
-pub use Rattle.std.proofs.Common.{Bool, Err, IsTrue, IsUtf8, List, None, Ok, Option, Result, Some, [], ap}
-pub use Rattle.std.proofs.Common.{append_assoc, ap₂, arith, false, inl, inr, length, map, refl, rules, slice_index, string_bytes, subst}
-pub use Rattle.std.proofs.Common.{suc, zero, subst₂, sym, true, unwrap_or, ℕ, ◌++◌, ◌<◌, ◌↔◌, ◌∙◌, ◌∷◌, ◌≡◌, ◌≤◌, ◌⊎◌}
+pub use Rattle.std.proofs.Common.{Bool, Err, IsTrue, IsUtf8, List, None, Ok, Option, Result, Some, [], ap, append_assoc, ap₂, arith, false, inl, inr, length, map, refl, rules, slice_index}
+pub use Rattle.std.proofs.Common.{string_bytes, subst, suc, zero, subst₂, sym, true, unwrap_or, ℕ, ◌++◌, ◌<◌, ◌↔◌, ◌∙◌, ◌∷◌, ◌≡◌, ◌≤◌, ◌⊎◌}
 pub use Rattle.std.proofs.Math.Logic.{∥∥₁_elim, ∥∥₁_map}
 pub use Rattle.std.proofs.lemmas.Bool.{cases_Bool, cases_eq, iff_false, true_from_ne_false, both_ways}
 pub use Rattle.std.proofs.lemmas.List.{get_or-map, length-map, nil_from_length}

@@ -1,10 +1,9 @@
 -- What calls make of a file, and what an open finds after them.
-use Rattle.argon2_store.proofs.Imports.{arith, ◌≡◌, ◌⊎◌, ℕ, List, [], ◌∷◌, ◌++◌, false, Result, Ok, Err, inl, inr, refl, sym, subst, ◌∙◌, ap, append_assoc}
-use Rattle.argon2_store.proofs.Imports.{cases_Bool, empty, get, ∥∥₁_elim, ∥∥₁_map, flat_map, SeenMayStay, settled_at, FileStore, Trees, Ghosts, bytes_eq-Decides}
-use Rattle.argon2_store.proofs.Imports.{Answers, IsErrAnd, Texts, IsClosed, database_of, Edit, changed, gives, left_by, names_after, name_of, is_refusal}
-use Rattle.argon2_store.proofs.Imports.{AreEventsOf, AreMade, Did, Does, EndsRun, FileEvent, FileCall, IsFoundAfter, IsLate, IsLateOf, IsShutOut, FileRun, events_of}
-use Rattle.argon2_store.proofs.Imports.{makes, text_by, over_file, reads, IsHonest, IsOpen, CrashLeaves, AccountFile, FileError, HasNames, IsReady, Settled}
-use Rattle.argon2_store.proofs.Imports.{IsTableOf, get-at, rows_of-once, get-empty}
+use Rattle.argon2_store.proofs.Imports.{arith, ◌≡◌, ◌⊎◌, ℕ, List, [], ◌∷◌, ◌++◌, false, Result, Ok, Err, inl, inr, refl, sym, subst, ◌∙◌, ap, append_assoc, cases_Bool, empty, get, ∥∥₁_elim}
+use Rattle.argon2_store.proofs.Imports.{∥∥₁_map, flat_map, SeenMayStay, settled_at, FileStore, Trees, Ghosts, bytes_eq-Decides, Answers, IsErrAnd, Texts, IsClosed, database_of, Edit}
+use Rattle.argon2_store.proofs.Imports.{changed, gives, left_by, names_after, name_of, is_refusal, AreEventsOf, AreMade, Did, Does, EndsRun, FileEvent, FileCall, IsFoundAfter, IsLate}
+use Rattle.argon2_store.proofs.Imports.{IsLateOf, IsShutOut, FileRun, events_of, makes, text_by, over_file, reads, IsHonest, IsOpen, CrashLeaves, AccountFile, FileError, HasNames, IsReady}
+use Rattle.argon2_store.proofs.Imports.{Settled, IsTableOf, get-at, rows_of-once, get-empty}
 use Rattle.argon2_store.proofs.NextOpenLemmas.{next_open}
 use Rattle.argon2_store.proofs.OpenLemmas.{left_table}
 use Rattle.sqlite_disk.specs.declared.Disk as disk

@@ -1,5 +1,4 @@
-use Rattle.argon2_store.proofs.Imports.{arith, Ok, AddsNames, Finishes, HasRows, IsHonest, Texts, map, ∥∥₁_map, entry_of, changes_of, err_is, has_either, on_all}
-use Rattle.argon2_store.proofs.Imports.{some_kept, taken_back}
+use Rattle.argon2_store.proofs.Imports.{arith, Ok, AddsNames, Finishes, HasRows, IsHonest, Texts, map, ∥∥₁_map, entry_of, changes_of, err_is, has_either, on_all, some_kept, taken_back}
 use Rattle.argon2_rows.proofs.AddLemmas.{undone}
 use Rattle.argon2_store.proofs.account_file.AccountFile.add_listed.Goals as goal
 use Rattle.argon2_store.proofs.account_file.AccountFile.add_listed.Goals.{After-commit}
