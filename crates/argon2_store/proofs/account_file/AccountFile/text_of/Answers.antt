@@ -1,4 +1,4 @@
-use Rattle.argon2_store.proofs.Imports.{arith, IsHonest, IsOpen, reads_keep, some_kept}
+use Rattle.argon2_store.proofs.Imports.{arith, reads_keep, some_kept}
 use Rattle.argon2_store.proofs.FileLemmas.{reads_of}
 use Rattle.argon2_store.proofs.account_file.AccountFile.text_of.Goals as goal
 
@@ -10,7 +10,6 @@ invariant_of-self g c = record {
 
 pub returns-clause-reads : goal.returns-clause-reads
 returns-clause-reads g c names has =
-    let opens : IsHonest g.S.Store c.args.self.now.store → IsOpen g.S.Store c.args.self.now.store = search arith in
     reads_of g.met.S.Store.settled c.args.self.now c.is_closed.ensures c.if-is_closed.false _ _ names has
-    (reads_keep g.met.S.Store.settled opens _ g.met.S.Store.broken_if_shut has (c.look_up-text.ensures.reads names)
+    (reads_keep g.met.S.Store.settled (search arith) _ g.met.S.Store.broken_if_shut has (c.look_up-text.ensures.reads names)
     c.undo_failed.ensures) _ c.read.ensures

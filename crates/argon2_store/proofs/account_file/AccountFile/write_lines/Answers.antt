@@ -10,10 +10,9 @@ invariant_of-self g c = record {
 
 pub returns-clause-reads : goal.returns-clause-reads
 returns-clause-reads g c names has =
-    let opens : IsHonest g.S.Store c.args.self.now.store → IsOpen g.S.Store c.args.self.now.store = search arith in
     rw (c.line_result.ensures, read_by-lines)
     (reads_of g.met.S.Store.settled c.args.self.now c.is_closed.ensures c.if-is_closed.false _ _ names has
-    (reads_keep g.met.S.Store.settled opens _ g.met.S.Store.broken_if_shut has (c.write_rows-done.ensures.reads names)
+    (reads_keep g.met.S.Store.settled (search arith) _ g.met.S.Store.broken_if_shut has (c.write_rows-done.ensures.reads names)
     c.undo_failed.ensures) _ c.read.ensures)
 
 pub returns-clause-shows : goal.returns-clause-shows
