@@ -168,7 +168,7 @@ Follow last [] = ⊤
 Follow last (row ∷ rows) = IsAccount row × (column row 0 ≡ column last 0 → ⊥) × Follow row rows
 
 -- the rows of names do, if each is of an account
-follow_rows : (last : Row) (es : List (List ℕ × List ℕ)) → T (is_sorted order es)
+pub follow_rows : (last : Row) (es : List (List ℕ × List ℕ)) → T (is_sorted order es)
     → ((k v : List ℕ) → find order k es ≡ Some v → IsAccount (row_of (k, v)) × (Text k ≡ column last 0 → ⊥))
     → Follow last (map row_of es)
 follow_rows last [] sorted each = tt
@@ -228,21 +228,11 @@ begin first now last shape is none = record {
 }
 
 module _ {first now next : View} {met last : Row} (reading : IsReading first now last) (moves : Advances now next 0 met true) where
-  rest_is : reading.rest ≡ met ∷ moves.0
+  pub rest_is : reading.rest ≡ met ∷ moves.0
   rest_is = same_Some _ _ (sym reading.left ∙ moves.1)
 
   pub step : IsAccount met → (column met 0 ≡ column last 0 → ⊥) → IsReading first next met
   step is new = let rest = rest_is in grind arith
-
-  -- if the rows are those of names with texts of one line, the next is that of an account, and of another name than the last
-  pub is_next : (names : Texts) → AreTexts names → AreLines names → first.trees 0 ≡ rows_of names
-      → Follow last (met ∷ moves.0)
-  is_next names texts lines is =
-      let rest = rest_is in
-      let all = follow_rows [] (entries names) (entries_sorted names) (λ k v found.
-      let has = get-entries names k ∙ found in let good = texts k v has in
-      (((k, v), good.0, good.1, lines k v has, refl), λ same. absurd cc)) in
-      grind arith
 
 -- rows that were read are those of names, unless the disk lied
 pub known : (clean : Bool) (rows : List Row) → (doubt clean ≡ 0 → IsIndex plain rows × Follow [] rows)

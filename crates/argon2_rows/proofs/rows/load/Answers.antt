@@ -1,6 +1,6 @@
-use Rattle.argon2_rows.proofs.Imports.{arith, ap, ◌∙◌, sym, subst, IsHonest, Trees}
+use Rattle.argon2_rows.proofs.Imports.{arith, ap, ◌∙◌, refl, sym, subst, [], entries, entries_sorted, get-entries, IsHonest, Trees}
 use Rattle.std.proofs.lemmas.Option.{same_Some}
-use Rattle.argon2_rows.proofs.RowLemmas.{Follow, begin, is_next, known}
+use Rattle.argon2_rows.proofs.RowLemmas.{Follow, begin, follow_rows, known, rest_is}
 use Rattle.argon2_rows.proofs.rows.load.Goals as goal
 
 pub loop-init : goal.loop-init
@@ -19,6 +19,9 @@ returns-then-not-branch-clause-found g c ended =
 pub returns-then-not-is_account-clause-refused : goal.returns-then-not-is_account-clause-refused
 returns-then-not-is_account-clause-refused g c refused clean names texts lines is =
     let settled = ap (λ (t : Trees). t 0) (c.requires (search arith)).settled in
-    let next = is_next (c.loop.invariant.2 (search arith)) (rw c.if-not-branch.false at (c.in_ok-next.ensures.ok clean))
-    names texts lines (settled ∙ is) in
+    let reading = c.loop.invariant.2 (search arith) in
+    let rest = rest_is reading (rw c.if-not-branch.false at (c.in_ok-next.ensures.ok clean)) in
+    let all = follow_rows [] (entries names) (entries_sorted names) (λ k v found.
+    let has = get-entries names k ∙ found in let good = texts k v has in
+    (((k, v), good.0, good.1, lines k v has, refl), λ same. absurd cc)) in
     grind arith
