@@ -66,10 +66,7 @@ impl<S: Store> AccountFile<S> {
     /// Gives a name that has a text another one, whatever text it has, also a locked one.
     ///
     /// # Errors
-    /// The first of these that holds:
-    /// - those of [`text_of`](AccountFile::text_of): the file has to be opened again, or can't be read.
-    /// - [`FileError::NameUnknown`]: the name has no text.
-    /// - those of writing, as [`add`](AccountFile::add).
+    /// As [`add`](AccountFile::add), but with [`FileError::NameUnknown`] for `NameTaken`: the name has no text.
     pub fn set(&mut self, name: &str, text: &PasswordHash) -> Result<(), FileError>
         ensures { Serves (setting name.now (text_of text.now) ∷ []) result self.old self.new }
     {
@@ -107,10 +104,7 @@ impl<S: Store> AccountFile<S> {
     /// Removes a name and its text.
     ///
     /// # Errors
-    /// The first of these that holds:
-    /// - those of [`text_of`](AccountFile::text_of): the file has to be opened again, or can't be read.
-    /// - [`FileError::NameUnknown`]: the name has no text.
-    /// - those of writing, as [`add`](AccountFile::add), but [`FileError::TooLong`].
+    /// As [`set`](AccountFile::set), but never [`FileError::TooLong`].
     pub fn remove(&mut self, name: &str) -> Result<(), FileError>
         ensures { Serves (removing name.now ∷ []) result self.old self.new }
     {
@@ -124,10 +118,7 @@ impl<S: Store> AccountFile<S> {
     /// [`set`](AccountFile::set). A text that is locked stays as it is.
     ///
     /// # Errors
-    /// The first of these that holds:
-    /// - those of [`text_of`](AccountFile::text_of): the file has to be opened again, or can't be read.
-    /// - [`FileError::NameUnknown`]: the name has no text.
-    /// - those of writing, as [`add`](AccountFile::add).
+    /// As [`set`](AccountFile::set).
     pub fn lock(&mut self, name: &str) -> Result<(), FileError>
         ensures { Serves (locking name.now ∷ []) result self.old self.new }
     {
