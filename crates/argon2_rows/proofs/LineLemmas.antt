@@ -45,7 +45,8 @@ begin_lines view first now names out shape is rows texts =
 module _ (view : View) (now : Shown) (names : Texts) (old mid out : Option (List ℕ)) where
   -- the next row is that of a name
   pub next_row : (next : Shown) (row : Row) → IsWriting view now names old mid → Advances now next 0 row true → (wrote : Option Written)
-      → ((e : List ℕ × List ℕ) → IsUtf8 e.0 → row ≡ row_of e → IsSomeAnd wrote (IsLineOf view e mid out)) → GoesOn view next names old out wrote
+      → ((e : List ℕ × List ℕ) → IsUtf8 e.0 → row ≡ row_of e → IsSomeAnd wrote (IsLineOf view e mid out))
+      → GoesOn view next names old out wrote
   next_row next row ([], at, named, rest) moves wrote its = absurd cc
   next_row next row (e ∷ left, at, named, rest) moves None its = its e named.0 cc
   next_row next row (e ∷ left, at, named, rest) moves (Some written.All) its =

@@ -25,8 +25,8 @@ loop-preserved g c = record {
 
 pub returns-then-not-branch-clause-shows : goal.returns-then-not-branch-clause-shows
 returns-then-not-branch-clause-shows g c names texts sees clean =
-    all_written _ (g.S.Store.view c.loop.store) names _ _ _ (c.loop.invariant.lines (search arith) names texts sees) (rw c.if-not-branch.true at (c.in_ok-next.ensures.ok clean)).0
-    c.flush.ensures.bytes c.flush.result _ c.outcome.ensures
+    all_written _ (g.S.Store.view c.loop.store) names _ _ _ (c.loop.invariant.lines (search arith) names texts sees)
+    (rw c.if-not-branch.true at (c.in_ok-next.ensures.ok clean)).0 c.flush.ensures.bytes c.flush.result _ c.outcome.ensures
 
 pub returns-in-Some-clause-shows : goal.returns-in-Some-clause-shows
 returns-in-Some-clause-shows g c names texts sees clean =

@@ -31,7 +31,8 @@ looked g c mid sees last = elim c.if-not-is_lt.branch [
 ]
 
 -- its row is written after those of the names before it
-added : (g : _) (c : After-insert g) (before : Texts) → AreTexts before → (IsHonest g.S.Store c.args.store.now → Sees (g.S.Store.view c.args.store.now) before)
+added : (g : _) (c : After-insert g) (before : Texts) → AreTexts before
+    → (IsHonest g.S.Store c.args.store.now → Sees (g.S.Store.view c.args.store.now) before)
     → (mid : Texts) × AreTexts mid
     × Writes g.S.Store c.args.store.now c.insert.new.store before (changed mid c.index-new-k.result.0.now (Some c.index-new-k.result.1.text.now))
     (Any IsLong (map entry_of c.args.new.now)) c.insert.result
@@ -55,8 +56,9 @@ loop-k-init g c =
 pub returns-in_err-found : goal.returns-in_err-found
 returns-in_err-found g c before texts sees =
     let (mid, fine, all, wrote) = c.loop-k.invariant.1 before texts sees in
+    let why = c.in_err-found.ensures in
     rw (err_is c.from_residual.result _ c.from_residual.ensures.1)
-    (mid, fine, writes_then {Q = ⊥} wrote (search (arith, c.in_err-found.ensures.err, c.in_err-found.ensures.cause)) (λ never. absurd never), λ clean. tt)
+    (mid, fine, writes_then {Q = ⊥} wrote (search (arith, why.err, why.cause)) (λ never. absurd never), λ clean. tt)
 
 pub returns-in-Some-true : goal.returns-in-Some-true
 returns-in-Some-true g c before texts sees =
