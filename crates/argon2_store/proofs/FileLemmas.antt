@@ -76,7 +76,7 @@ module _ {S : Type 0} {g : Ghosts S} (settled : Settled g) (old : AccountFile S 
         let was_open = is_open in
         let due_now = λ (clean : IsTrusted new). let was : IsTrusted old = omega (arith, clean, quiet.clean) in
         let told : IfErr done (λ e. Cause (g.view (database_of old)) (HasFailed g (database_of old) (database_of new)) ⊥ e
-            × IsTold g (database_of new) e) = let due = why clean in grind arith in
+        × IsTold g (database_of new) e) = let due = why clean in grind arith in
         due (IsClosed old) (IsTold g (database_of new)) (g.view (database_of old)) done (has.1.sound was (is_open was)) (λ f. f)
         (λ never. never) told in
         grind arith
@@ -138,8 +138,8 @@ module _ {S : Type 0} {g : Ghosts S} {old mid : AccountFile S g} {before : Texts
         rw e (ends change (Err (call_error f)) before change.kept (λ clean. ((λ is. absurd cc), refl)) (λ is. absurd cc)
             (λ clean db found. let (names, held, is) = change.crash clean db found in
             let ended = then clean in (names, held, grind arith)) (λ clean. let was = change.honest clean in
-            due {X = Unit {0}} (IsClosed old) (IsTold g (database_of new)) (g.view (database_of mid)) (Err f) (reads.has.1.sound was (reads.is_open refl was))
-            (λ failed. omega (arith, failed, reads.quiet.counts)) (too clean) (change.cause clean))),
+            due {X = Unit {0}} (IsClosed old) (IsTold g (database_of new)) (g.view (database_of mid)) (Err f)
+            (reads.has.1.sound was (reads.is_open refl was)) (λ failed. omega (arith, failed, reads.quiet.counts)) (too clean) (change.cause clean))),
       )
 
   -- names are added, or none

@@ -20,8 +20,8 @@ texts_after : (edits : List Edit) (names after : Texts) → names_after edits na
 texts_after [] names after is name = cc
 texts_after (edit ∷ edits) names after is name =
     let given = gives edit (get names (name_of edit)) in
-    grind (arith, texts_after edits (changed names (name_of edit) given) after, get-at names (name_of edit) name given,
-        bytes_eq-Decides name (name_of edit))
+    let at = get-at names (name_of edit) name given in
+    grind (arith, texts_after edits (changed names (name_of edit) given) after, at, bytes_eq-Decides name (name_of edit))
 
 -- the text of each name is what its edits left
 pub texts_of_events : (events : List FileEvent) (names : Texts) → AreMade empty events names → (name : List ℕ)
@@ -96,10 +96,14 @@ module _ {S : Type 0} {g : Ghosts S} (settled : Settled g) (first : Texts) where
         let (after, does) = serve before.names before.has in
         reaches (IsLateOf (makes edits result)) _ _ after does.has does.honest
         (λ clean. its_events before.names after edits result (does.answers clean))
-        (λ clean is_open db found. let (left, held, is) = does.crash clean is_open db found in (left, held, elim is [
-          | inl same ↦ inl same
-          | inr late ↦ let made = does.answers clean in inr ((edits, Ok tt) ∷ [], grind arith, (after, refl, grind arith))
-        ]))
+        (λ clean is_open db found. let (left, held, is) = does.crash clean is_open db found in (
+          left,
+          held,
+          elim is [
+            | inl same ↦ inl same
+            | inr late ↦ let made = does.answers clean in inr ((edits, Ok tt) ∷ [], grind arith, (after, refl, grind arith))
+          ],
+        ))
         (λ clean is_closed. let (shut, same) = does.closed (does.honest clean) is_closed in search arith)
     one_more (reads error) stay =
         let does = stay before.names before.has in

@@ -25,8 +25,13 @@ looked g c = elim c.if-not-is_new.branch [
   )
   | else-not-is_new w ↦ rw (w.unopened-is) (
     search rules,
-    λ clean. (clean, refl, ∣ inl (probed c.probe_blank.ensures.log c.probe_blank.ensures.db c.in-Ok-new-2.unopened (search rules) _ _
-        (search rules) c.in-Ok.ensures.ok (search rules) clean) ∣₁, λ left is. is),
+    λ clean. (
+      clean,
+      refl,
+      ∣ inl (probed c.probe_blank.ensures.log c.probe_blank.ensures.db c.in-Ok-new-2.unopened (search rules) _ _
+          (search rules) c.in-Ok.ensures.ok (search rules) clean) ∣₁,
+      λ left is. is,
+    ),
   )
 ]
 
