@@ -12,6 +12,7 @@ ghost use Rattle.argon2.specs.Rfc9106.{block_count, segment_length};
 ghost use Rattle.argon2.specs.Segments.{slice_length};
 
 use crate::blocks::{alike_pairs, digest_of, digest_of_places};
+use crate::inputs;
 use argon2::block::Words;
 use argon2::{Argon2, Block, Error, Kdf, MAX_AD_LEN, MAX_PWD_LEN, MAX_SALT_LEN, Segment, laws};
 use argon2_lines::{Answer, Call};
@@ -19,10 +20,10 @@ use std::convert::AsSlice;
 
 pub(crate) fn is_made(call: &Call<'_, '_>, answer: &mut Answer, memory: &mut Vec<Block>) -> bool {
     match call.name {
-        "derive_key" => derived(call, answer),
-        "hash_password_into" | "hash_password_into_with_data" | "hash_password_into_with_words" => {
-            hashed(call, answer);
-        }
+        "derive_key"
+        | "hash_password_into"
+        | "hash_password_into_with_data"
+        | "hash_password_into_with_words" => hashed(call, answer),
         "fill_segment" => filled_apart(call, answer),
         "memory" => *memory = lent(call, answer),
         // `COUNT`: how many pairs, each block with each of the last ones, are mixed alike.
@@ -50,19 +51,16 @@ pub(crate) fn is_made(call: &Call<'_, '_>, answer: &mut Answer, memory: &mut Vec
     true
 }
 
-fn derived(call: &Call<'_, '_>, answer: &mut Answer) {
-    let (argon2, password, salt) = (call.context(1), call.bytes(2), call.bytes(3));
-    let mut out = answer.ones(call.count(4));
-    let done = argon2.derive_key(answer.alloc, password, salt, out.as_mut_slice());
-    answer.written(done, &out);
-}
-
 // `.. DATA`: under other associated data; `.. DATA COUNT`: the same on so many blocks of ones, as their words.
 fn hashed(call: &Call<'_, '_>, answer: &mut Answer) {
-    let (argon2, password, salt) = (call.context(1), call.bytes(2), call.bytes(3));
+    let (argon2, password, salt) = inputs(call);
     let (alloc, mut out) = (answer.alloc, answer.ones(call.count(4)));
     let tag = out.as_mut_slice();
     let done = match call.name {
+        "derive_key" => {
+            let done = argon2.derive_key(alloc, password, salt, tag);
+            return answer.written(done, &out);
+        }
         "hash_password_into" => argon2.hash_password_into(alloc, password, salt, tag),
         "hash_password_into_with_data" => {
             argon2.hash_password_into_with_data(alloc, call.bytes(5), password, salt, tag)
@@ -73,7 +71,7 @@ fn hashed(call: &Call<'_, '_>, answer: &mut Answer) {
 }
 
 fn on_words(call: &Call<'_, '_>, answer: &mut Answer, tag: &mut [u8]) -> Result<(), Error> {
-    let (argon2, password, salt) = (call.context(1), call.bytes(2), call.bytes(3));
+    let (argon2, password, salt) = inputs(call);
     let (data, count) = (call.bytes(5), call.count(6) as usize);
     if data.len() > MAX_AD_LEN {
         return Err(Error::AdTooLong);
@@ -136,7 +134,7 @@ fn show(
 
 // A call that leaves nothing but the output and the memory.
 fn filled(call: &Call<'_, '_>, answer: &mut Answer, memory: &mut [Block]) {
-    let (argon2, password, salt) = (call.context(1), call.bytes(2), call.bytes(3));
+    let (argon2, password, salt) = inputs(call);
     let (old, mut out) = (digests(argon2, memory), answer.ones(call.count(4)));
     let tag = out.as_mut_slice();
     let done = match call.name {
@@ -159,7 +157,7 @@ fn place_count(argon2: &Argon2<'_>) -> Option<usize>
 
 // `hash_password_into_watched .. PLACE..`, with the positions at these places.
 fn watched(call: &Call<'_, '_>, answer: &mut Answer, memory: &mut [Block]) {
-    let (argon2, password, salt) = (call.context(1), call.bytes(2), call.bytes(3));
+    let (argon2, password, salt) = inputs(call);
     let Some(count) = place_count(argon2) else {
         return call.refuse();
     };
@@ -196,7 +194,7 @@ fn show_places(call: &Call<'_, '_>, place: usize, answer: &mut Answer, positions
 // `step_block CONTEXT PASSWORD SALT LENGTH TURNS TURNS TURNS TURNS`: a filling by single steps. The words have the lanes'
 // turns in slices 0 to 3 of each pass, a digit for a step. In slice 0 of pass 0 the first two of each lane are no steps.
 fn stepped(call: &Call<'_, '_>, answer: &mut Answer, memory: &mut [Block]) {
-    let (argon2, password, salt) = (call.context(1), call.bytes(2), call.bytes(3));
+    let (argon2, password, salt) = inputs(call);
     let turns = [call.word(5), call.word(6), call.word(7), call.word(8)];
     let count = place_count(argon2).unwrap_or(0);
     let mut positions = answer.granted(Vec::from_elem(answer.alloc, u32::MAX, count));
@@ -285,7 +283,7 @@ fn finish(argon2: &Argon2<'_>, memory: &[Block], out: &mut [u8]) -> bool {
 // `fill_segment CONTEXT PASSWORD SALT LENGTH LANES LANES LANES LANES`: a filling by segments, on blocks of ones. The words have
 // the lanes of slices 0 to 3 in the order in which each pass fills them, a digit for a lane. The answer is the tag.
 fn filled_apart(call: &Call<'_, '_>, answer: &mut Answer) {
-    let (argon2, password, salt) = (call.context(1), call.bytes(2), call.bytes(3));
+    let (argon2, password, salt) = inputs(call);
     let lanes = [call.word(5), call.word(6), call.word(7), call.word(8)];
     let (count, mut out) = (argon2.params().block_count(), answer.ones(call.count(4)));
     let mut memory = answer.granted(Vec::from_elem(answer.alloc, [u64::MAX; 128], count));

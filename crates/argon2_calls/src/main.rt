@@ -54,3 +54,8 @@ fn is_made<'a>(
 fn own_context<'a>(call: &Call<'_, 'a>, place: usize) -> Argon2<'a> {
     call.context(place).clone().unwrap_or_default()
 }
+
+// The context, the password and the salt of a call whose first values they are.
+fn inputs<'c, 'a>(call: &Call<'c, 'a>) -> (&'c Argon2<'a>, &'a [u8], &'a [u8]) {
+    (call.context(1), call.bytes(2), call.bytes(3))
+}

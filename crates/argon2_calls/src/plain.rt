@@ -30,17 +30,23 @@ fn place(first: usize, stride: usize, k: usize) -> usize
         % 128
 }
 
+// Half of a step on four words, with its two rotations.
+fn half(v: [u64; 4], one: u32, other: u32) -> [u64; 4] {
+    let [a, b, c, d] = v;
+    let a = add_mul(a, b);
+    let d = (d ^ a).rotate_right(one);
+    let c = add_mul(c, d);
+    let b = (b ^ c).rotate_right(other);
+    [a, b, c, d]
+}
+
 fn permute(z: &mut [u64; 128], first: usize, stride: usize) {
     for step in &STEPS {
         let [a, b, c, d] = *step;
         let (a, b) = (place(first, stride, a), place(first, stride, b));
         let (c, d) = (place(first, stride, c), place(first, stride, d));
-        for (one, other) in [(32, 24), (16, 63)] {
-            z[a] = add_mul(z[a], z[b]);
-            z[d] = (z[d] ^ z[a]).rotate_right(one);
-            z[c] = add_mul(z[c], z[d]);
-            z[b] = (z[b] ^ z[c]).rotate_right(other);
-        }
+        let words = half([z[a], z[b], z[c], z[d]], 32, 24);
+        [z[a], z[b], z[c], z[d]] = half(words, 16, 63);
     }
 }
 

@@ -1,7 +1,7 @@
 //! Calls on parameters, texts and passwords. A value is answered by its text, a list by its text in quotes, and what a text
 //! lacks by `none`.
 
-use crate::own_context;
+use crate::{inputs, own_context};
 use argon2::error::{kdf, password_hash};
 use argon2::login::{LoggedIn, Target};
 use argon2::password_hash::{Result, Settings, Stored};
@@ -94,11 +94,10 @@ fn is_of_params(call: &Call<'_, '_>, answer: &mut Answer) -> bool {
         // `PLACE`: the error, its text, and those that it gives, with their texts.
         "Error::from" => {
             if let Some(error) = ERRORS.get(call.count(1) as usize) {
-                let of_texts = password_hash::Error::from(*error);
                 answer.show(error);
                 answer.say(error);
-                answer.show(&of_texts);
-                answer.say(of_texts);
+                answer.show(password_hash::Error::from(*error));
+                answer.say(password_hash::Error::from(*error));
                 answer.say(kdf::Error::from(*error));
             }
         }
@@ -137,12 +136,9 @@ fn is_of_texts(call: &Call<'_, '_>, answer: &mut Answer) -> bool {
                 answer.say(value.text().as_str());
             }
         }
-        "PasswordHash::new"
-        | "PasswordHash::fmt"
-        | "PasswordHash.fields"
-        | "Params::try_from"
-        | "Settings::try_from"
-        | "Stored::try_from" => {
+        "PasswordHash::new" => answer.said(PasswordHash::new(call.str(1))),
+        "PasswordHash::fmt" => answer.shown(PasswordHash::new(call.str(1))),
+        "PasswordHash.fields" | "Params::try_from" | "Settings::try_from" | "Stored::try_from" => {
             if let Some(value) = answer.ok(PasswordHash::new(call.str(1))) {
                 on_value(call, answer, &value);
             }
@@ -168,8 +164,6 @@ fn list_of(text: &str) -> Result<Option<ParamsString>> {
 // A call on the value of a text.
 fn on_value(call: &Call<'_, '_>, answer: &mut Answer, value: &PasswordHash) {
     match call.name {
-        "PasswordHash::new" => answer.say(value),
-        "PasswordHash::fmt" => answer.show(value),
         // The identifier, the version, the list, the salt and the hash.
         "PasswordHash.fields" => {
             answer.say(value.algorithm.as_str());
@@ -242,14 +236,10 @@ fn on_list(call: &Call<'_, '_>, answer: &mut Answer, list: &mut ParamsString) {
                 answer.say(value.as_str());
             }
         }
-        // `LIST NAME`: the value.
-        "ParamsString::get" => match list.get(call.word(2)) {
+        // `LIST NAME`: the value, or its number.
+        "ParamsString::get" | "Value::decimal" => match list.get(call.word(2)) {
+            Some(value) if call.name == "Value::decimal" => answer.said(value.decimal()),
             Some(value) => answer.say(value.as_str()),
-            None => answer.say("none"),
-        },
-        // `LIST NAME`: the number of the value.
-        "Value::decimal" => match list.get(call.word(2)) {
-            Some(value) => answer.said(value.decimal()),
             None => answer.say("none"),
         },
         // `LIST NAME NUMBER`: `Ok` or the error, and the list then.
@@ -279,17 +269,16 @@ fn is_of_passwords(call: &Call<'_, '_>, answer: &mut Answer) -> bool {
         }
         // `CONTEXT PASSWORD SALT`: the text.
         "hash_password_with_salt" => {
-            let (argon2, password, salt) = (call.context(1), call.bytes(2), call.bytes(3));
+            let (argon2, password, salt) = inputs(call);
             answer.said(argon2.hash_password_with_salt(alloc, password, salt));
         }
         // `CONTEXT PASSWORD SALT ALGORITHM VERSION CONTEXT`: the text under the second context's parameters, and an algorithm
         // and a version or `none`.
         "hash_password_customized" => {
-            let (argon2, password, salt) = (call.context(1), call.bytes(2), call.bytes(3));
-            let name = if call.word(4) == "none" {
-                None
-            } else {
-                Some(call.word(4))
+            let (argon2, password, salt) = inputs(call);
+            let name = match call.word(4) {
+                "none" => None,
+                name => Some(name),
             };
             let (version, params) = (version(call, 5), *call.context(6).params());
             answer.said(argon2.hash_password_customized(
@@ -344,11 +333,11 @@ fn is_of_bounds(call: &Call<'_, '_>, answer: &mut Answer) -> bool {
 }
 
 fn of_target(call: &Call<'_, '_>, answer: &mut Answer) {
-    let made = Target::new(own_context(call, 1));
-    if call.name == "Target::new" {
-        answer.done(made.and(Ok(())));
-    } else if let Some(target) = answer.ok(made) {
-        on_target(call, answer, &target);
+    if let Some(target) = answer.ok(Target::new(own_context(call, 1))) {
+        match call.name {
+            "Target::new" => answer.say("Ok"),
+            _ => on_target(call, answer, &target),
+        }
     }
 }
 
@@ -362,28 +351,29 @@ fn on_target(call: &Call<'_, '_>, answer: &mut Answer, target: &Target<'_>) {
         let Some(it) = answer.ok(Stored::try_from(&value)) else {
             return;
         };
-        if call.name == "Target::verify" {
-            answer.done(target.verify(alloc, password, &it));
-        } else {
-            let done = target.log_in(alloc, &mut rng, password, &it);
-            logged_in(answer, done, &rng);
+        match call.name {
+            "Target::verify" => answer.done(target.verify(alloc, password, &it)),
+            _ => {
+                let done = target.log_in(alloc, &mut rng, password, &it);
+                logged_in(answer, done, &rng);
+            }
         }
     }
 }
 
 fn of_policy(call: &Call<'_, '_>, answer: &mut Answer) {
     let made = Policy::new(answer.alloc, own_context(call, 1), call.bound(2));
-    if call.name == "Policy::new" {
-        return answer.done(made.and(Ok(())));
-    }
-    let Some(policy) = answer.ok(made) else {
-        return;
-    };
-    // `.. SECRET GENERATOR PASSWORD TEXT`: a login, for which a text may also be one under the old secret.
-    if call.name != "Policy::with_old_secret" {
-        on_policy(call, 5, answer, &policy);
-    } else if let Some(policy) = answer.ok(policy.with_old_secret(call.bytes(5))) {
-        on_policy(call, 6, answer, &policy);
+    if let Some(policy) = answer.ok(made) {
+        match call.name {
+            "Policy::new" => answer.say("Ok"),
+            // `.. SECRET GENERATOR PASSWORD TEXT`: a login, for which a text may also be one under the old secret.
+            "Policy::with_old_secret" => {
+                if let Some(policy) = answer.ok(policy.with_old_secret(call.bytes(5))) {
+                    on_policy(call, 6, answer, &policy);
+                }
+            }
+            _ => on_policy(call, 5, answer, &policy),
+        }
     }
 }
 

@@ -2,7 +2,7 @@
 //! An answer says what the call returns and how many bytes it drew, if it may draw. Those of a login store end with the text of
 //! the name then, or `none`.
 
-use crate::own_context;
+use crate::{inputs, own_context};
 use argon2::login::{Login, login_runs};
 use argon2::phc::{Output, Salt};
 use argon2::{Argon2, Block};
@@ -165,7 +165,7 @@ fn blocks(answer: &mut Answer, argon2: &Argon2<'_>) -> Vec<Block> {
 
 // `CONTEXT PASSWORD SALT LENGTH`: the tag.
 fn hashed_in_rounds(call: &Call<'_, '_>, answer: &mut Answer) {
-    let (argon2, password, salt) = (call.context(1), call.bytes(2), call.bytes(3));
+    let (argon2, password, salt) = inputs(call);
     let (mut memory, mut out) = (blocks(answer, argon2), answer.ones(call.count(4)));
     let (tag, memory) = (out.as_mut_slice(), memory.as_mut_slice());
     let done = scheduler::hash_in_rounds(argon2, password, salt, tag, memory);
