@@ -8,13 +8,40 @@ use argon2_accounts::Accounts;
 use argon2_lines::{Answer, Call, Contexts, Line, context, line};
 use argon2_policy::Policy;
 use argon2_rows::{StoredText, View};
-use argon2_store::{AccountFile, LineError, account_file_runs};
+use argon2_store::{AccountFile, OpenError, account_file_runs};
 use sqlite_std_file::{FileFrom, Wary};
 use sqlite_store::FileStore;
 use sqlite_trees::store::Store;
 use std::io::{self, BufWriter, Read, Write};
 
-type Held<'a> = Option<Accounts<'a, FileStore<FileFrom<Wary>>>>;
+type OnDisk = FileStore<FileFrom<Wary>>;
+
+// The calls that need files on a disk. All else is over any store that has them: the prover takes long for each call that
+// passes `OnDisk` on.
+trait Disks: Store + Drop {
+    fn open(rt: &HostRuntime, path: &str) -> Result<AccountFile<Self>, OpenError>;
+
+    fn checkpoint(answer: &mut Answer, file: &mut AccountFile<Self>);
+
+    fn sign_up(call: &Call<'_, '_>, answer: &mut Answer, held: &mut Accounts<'_, Self>);
+}
+
+impl Disks for OnDisk {
+    fn open(rt: &HostRuntime, path: &str) -> Result<AccountFile<OnDisk>, OpenError> {
+        AccountFile::open(rt, path, Wary)
+    }
+
+    fn checkpoint(answer: &mut Answer, file: &mut AccountFile<OnDisk>) {
+        answer.done(file.checkpoint());
+    }
+
+    // `NAME GENERATOR PASSWORD`.
+    fn sign_up(call: &Call<'_, '_>, answer: &mut Answer, held: &mut Accounts<'_, OnDisk>) {
+        let (name, mut rng, password) = (call.word(1), call.generator(2), call.bytes(3));
+        answer.done(argon2_service::sign_up(held, &mut rng, name, password));
+        answer.drawn(&rng);
+    }
+}
 
 fn main(rt: HostRuntime) -> io::Result<()> {
     let alloc = rt.alloc();
@@ -22,36 +49,31 @@ fn main(rt: HostRuntime) -> io::Result<()> {
     rt.reader().read_to_string(&mut text)?;
     let lines = line::lines_of(alloc, text.as_str())?;
     let mut output = BufWriter::new(alloc, rt.stdout())?;
-    write_all(&rt, &mut output, &lines)
+    write_all::<OnDisk, _>(&rt, &mut output, &lines)
 }
 
-fn write_all<'a, W: Write>(
+fn write_all<'a, S: Disks, W: Write>(
     rt: &HostRuntime,
     output: &mut W,
     lines: &'a [Line<'a>],
 ) -> io::Result<()> {
-    let mut contexts = Contexts::new(rt.alloc());
+    let (mut contexts, mut answer) = (Contexts::new(rt.alloc()), Answer::new(rt.alloc()));
     contexts.add(lines)?;
-    write_each(rt, output, &mut None, &contexts, lines)
-}
-
-fn write_each<'a, W: Write>(
-    rt: &HostRuntime,
-    output: &mut W,
-    accounts: &mut Held<'a>,
-    contexts: &Contexts<'a>,
-    lines: &'a [Line<'a>],
-) -> io::Result<()> {
-    let mut answer = Answer::new(rt.alloc());
+    let mut accounts: Option<Accounts<'a, S>> = None;
     for line in lines {
-        let call = Call::new(line, contexts);
-        make(rt, &call, &mut answer, accounts);
+        let call = Call::new(line, &contexts);
+        make(rt, &call, &mut answer, &mut accounts);
         answer.write(&call, output)?;
     }
     output.flush()
 }
 
-fn make<'a>(rt: &HostRuntime, call: &Call<'_, 'a>, answer: &mut Answer, accounts: &mut Held<'a>) {
+fn make<'a, S: Disks>(
+    rt: &HostRuntime,
+    call: &Call<'_, 'a>,
+    answer: &mut Answer,
+    accounts: &mut Option<Accounts<'a, S>>,
+) {
     match call.name {
         "context" => context::define(call, answer),
         "account_file_runs" => {
@@ -59,84 +81,60 @@ fn make<'a>(rt: &HostRuntime, call: &Call<'_, 'a>, answer: &mut Answer, accounts
             answer.say("Ok");
         }
         "AccountFile::open" => open(rt, call, answer, accounts),
-        _ => on_file(call, answer, accounts),
+        "AccountFile::into_store" => {
+            if let Some(Accounts { file, .. }) = accounts.take() {
+                file.into_store();
+                answer.say("Ok");
+            }
+        }
+        _ => match accounts {
+            Some(held) => on_accounts(call, answer, held),
+            None => call.refuse(),
+        },
     }
 }
 
 // `AccountFile::open PATH CONTEXT M T P`: a file, and the policy for its accounts that the last four make.
-fn open<'a>(rt: &HostRuntime, call: &Call<'_, 'a>, answer: &mut Answer, accounts: &mut Held<'a>) {
+fn open<'a, S: Disks>(
+    rt: &HostRuntime,
+    call: &Call<'_, 'a>,
+    answer: &mut Answer,
+    accounts: &mut Option<Accounts<'a, S>>,
+) {
     let argon2 = call.context(2).clone().unwrap_or_default();
     let Ok(policy) = Policy::new(answer.alloc, argon2, call.bound(3)) else {
         answer.is_refused = true;
         return;
     };
-    if let Some(file) = answer.ok(AccountFile::open(rt, call.word(1), Wary)) {
+    if let Some(file) = answer.ok(S::open(rt, call.word(1))) {
         *accounts = Some(Accounts { policy, file });
         answer.say("Ok");
     }
 }
 
-// Makes a call on the accounts that are open. The prover takes long for each call that passes a file on as a store, so
-// this makes only those that ask for a disk, and `on_store` all others.
-fn on_file(call: &Call<'_, '_>, answer: &mut Answer, accounts: &mut Held<'_>) {
-    if let Some(held) = accounts {
-        match call.name {
-            "AccountFile::checkpoint" => answer.done(held.file.checkpoint()),
-            // `NAME GENERATOR PASSWORD`.
-            "service::sign_up" => {
-                let (mut rng, password) = (call.generator(2), call.bytes(3));
-                answer.done(argon2_service::sign_up(held, &mut rng, call.word(1), password));
-                answer.drawn(&rng);
-            }
-            _ => {}
-        }
-    }
-    on_store(call, answer, accounts);
-}
-
-fn on_store<S: Store + Drop>(
-    call: &Call<'_, '_>,
-    answer: &mut Answer,
-    accounts: &mut Option<Accounts<'_, S>>,
-) {
-    if call.name == "AccountFile::into_store" {
-        if let Some(Accounts { file, .. }) = accounts.take() {
-            file.into_store();
-            answer.say("Ok");
-        }
-        return;
-    }
-    let Some(held) = accounts else {
-        return call.refuse();
-    };
-    on_accounts(call, answer, held);
-    if held.file.is_closed() {
-        answer.say("closed");
-    }
-}
-
-fn on_accounts<S: Store>(call: &Call<'_, '_>, answer: &mut Answer, held: &mut Accounts<'_, S>) {
+fn on_accounts<S: Disks>(call: &Call<'_, '_>, answer: &mut Answer, held: &mut Accounts<'_, S>) {
     match call.name {
         "AccountFile::write_lines" => write_lines(answer, &mut held.file),
-        "AccountFile::checkpoint" => {}
+        "AccountFile::checkpoint" => S::checkpoint(answer, &mut held.file),
         "AccountFile::add_all" => add_all(call, answer, &mut held.file),
-        name if name.starts_with("AccountFile::") => on_name(call, answer, &mut held.file),
         name => {
-            if name != "service::sign_up" {
-                with_password(call, answer, held);
+            match name {
+                "service::sign_up" => S::sign_up(call, answer, held),
+                name if name.starts_with("AccountFile::") => on_name(call, answer, &mut held.file),
+                _ => with_password(call, answer, held),
             }
             show_text(call, answer, &mut held.file);
         }
+    }
+    if held.file.is_closed() {
+        answer.say("closed");
     }
 }
 
 // The lines, joined by spaces.
 fn write_lines<S: Store>(answer: &mut Answer, file: &mut AccountFile<S>) {
     let mut output = Vec::new(answer.alloc);
-    match file.write_lines(View::Texts, &mut output) {
-        Err(LineError::File(e)) => answer.show(e),
-        done => answer.done(done),
-    }
+    answer.done(file.write_lines(View::Texts, &mut output));
     for entry in str::from_utf8(&output).unwrap_or("").lines() {
         answer.say(entry);
     }
@@ -144,14 +142,19 @@ fn write_lines<S: Store>(answer: &mut Answer, file: &mut AccountFile<S>) {
 
 // `NAME TEXT NAME TEXT`: an error comes with the place of the entry that is refused.
 fn add_all<S: Store>(call: &Call<'_, '_>, answer: &mut Answer, file: &mut AccountFile<S>) {
-    match (StoredText::new(call.word(2)), StoredText::new(call.word(4))) {
-        (Ok((one, _)), Ok((other, _))) => {
-            match file.add_all(&[(call.word(1), one), (call.word(3), other)]) {
-                Ok(()) => answer.say("Ok"),
-                Err((place, e)) => answer.say(format_args!("{e:?} at {place}")),
-            }
+    let Ok((one, _)) = StoredText::new(call.word(2)) else {
+        return call.refuse();
+    };
+    let Ok((other, _)) = StoredText::new(call.word(4)) else {
+        return call.refuse();
+    };
+    match file.add_all(&[(call.word(1), one), (call.word(3), other)]) {
+        Ok(()) => answer.say("Ok"),
+        Err((place, e)) => {
+            answer.show(e);
+            answer.say("at");
+            answer.say(place);
         }
-        _ => call.refuse(),
     }
 }
 
@@ -182,7 +185,6 @@ fn on_name<S: Store>(call: &Call<'_, '_>, answer: &mut Answer, file: &mut Accoun
         }
         _ => call.refuse(),
     }
-    show_text(call, answer, file);
 }
 
 // The text of `NAME`, or why it can't be read.
@@ -192,7 +194,7 @@ fn show_text<S: Store>(call: &Call<'_, '_>, answer: &mut Answer, file: &mut Acco
     }
 }
 
-// `NAME GENERATOR PASSWORD`, or `NAME GENERATOR OLD NEW`.
+// A call on `NAME GENERATOR PASSWORD`, or `NAME GENERATOR OLD NEW`.
 fn with_password<S: Store>(call: &Call<'_, '_>, answer: &mut Answer, held: &mut Accounts<'_, S>) {
     let (name, mut rng, password) = (call.word(1), call.generator(2), call.bytes(3));
     match call.name {
