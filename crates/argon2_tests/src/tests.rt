@@ -84,7 +84,7 @@ fn is_name(algorithm: Algorithm, name: &str) -> bool {
 }
 
 #[test]
-fn reads_and_orders_names_and_lists(rt: HostRuntime) -> Result<(), Fail> {
+fn reads_and_orders_names(rt: HostRuntime) {
     assert!(rt; is_name(Algorithm::Argon2d, "argon2d") && is_name(Algorithm::Argon2i, "argon2i"));
     assert!(rt; is_name(Algorithm::default(), "argon2id"));
     assert!(rt;
@@ -92,13 +92,17 @@ fn reads_and_orders_names_and_lists(rt: HostRuntime) -> Result<(), Fail> {
     );
     assert!(rt; Version::V0x10 < Version::V0x13 && Version::default() == Version::V0x13);
     assert!(rt; ARGON2D_IDENT < ARGON2I_IDENT && ARGON2I_IDENT < ARGON2ID_IDENT);
+}
+
+#[test]
+fn reads_and_orders_lists(rt: HostRuntime) -> Result<(), Fail> {
     let (key, empty) = (KeyId::new(&[0xf0; 4])?, AssociatedData::default());
     assert!(rt; "8PDw8A".parse() == Ok(key) && KeyId::default() < key);
     assert!(rt; key.len() == 4 && !key.is_empty() && empty.len() == 0 && empty.is_empty());
     assert!(rt; AssociatedData::EMPTY < AssociatedData::from_b64("AA")?);
     let hash = PasswordHash::new("$argon2d$v=16")?;
-    assert!(rt; "$argon2d$v=16".parse() == Ok(hash));
-    assert!(rt; PasswordHash::new("$argon2d$v=19")? != PasswordHash::new("$argon2d$v=16")?);
+    assert!(rt; "$argon2d$v=16".parse::<PasswordHash>()? == hash);
+    assert!(rt; PasswordHash::new("$argon2d$v=19")? != hash);
     assert!(rt; Salt::new(b"somesalt")?.len() == 8);
     Ok(())
 }
