@@ -1,32 +1,18 @@
 -- What calls on a file and answers of a policy make of the names.
 pub use Rattle.std.proofs.Common.{[], ap, arith, Err, inl, inr, List, None, Ok, Option, refl, Result, rules, Some, ℕ, ◌∙◌, ◌∷◌, ◌≡◌, ◌⊎◌}
-use Rattle.std.specs.FinMap.{get}
 use Rattle.std.proofs.lemmas.Slice.Eq.{bytes_eq-Decides}
 use Rattle.std.specs.Prelude.{◌<◌, IsTrue, length}
-pub use Rattle.std.specs.Result.{result_map_both}
-pub use Rattle.rand_core.specs.Stream.{fill_bytes, Stream}
-use Rattle.sqlite_trees.specs.declared.store.Store.{Ghosts}
-pub use Rattle.argon2_base.specs.PhcFields.{phc_of}
-use Rattle.argon2_base.specs.declared.phc.hash.PasswordHash.{PasswordHash}
-use Rattle.argon2.specs.TextHashing.{HashingRefusal, IsFresh}
-use Rattle.argon2.specs.declared.bound.BoundError.{BoundError}
-use Rattle.argon2.specs.Refusals.{max_len}
+use Rattle.argon2.specs.TextHashing.{HashingRefusal}
 use Rattle.argon2_base.specs.declared.error.password_hash.Error.{Error}
 use Rattle.argon2.specs.declared.bound.BoundError.TheVariants.{Refused, TooExpensive}
-pub use Rattle.argon2.specs.declared.login.answers.Accepted.{Accepted}
-pub use Rattle.argon2.specs.declared.login.answers.Accepted.TheVariants.{Kept, Rehashed}
 use Rattle.argon2_policy.proofs.PolicyLemmas.{denied}
-pub use Rattle.argon2_policy.specs.Policy.{Admits, ChangeRefusal, Denial, DrawsIfAdmitted, LogsIn, Policy, policy_value}
+use Rattle.argon2_policy.specs.Policy.{ChangeRefusal, DrawsIfAdmitted}
 use Rattle.argon2_rows.proofs.RowLemmas.{get-changed}
-use Rattle.argon2_rows.specs.Names.{Texts, changed}
-use Rattle.argon2_rows.specs.Table.{IsHonest}
-pub use Rattle.argon2_store.specs.AccountFile.{Answers, database_of, HasNames, Serves}
-pub use Rattle.argon2_store.specs.Edits.{adding, Edit, gives, name_of, names_after, replacing, setting, text_of}
-use Rattle.argon2_store.specs.declared.account_file.AccountFile.{AccountFile}
-use Rattle.argon2_store.specs.Runs.{Does, reads}
-pub use Rattle.argon2_store.specs.declared.error.FileError.{FileError}
-pub use Rattle.argon2_accounts.specs.Accounts.{AdmitsName, ChangesName, GivesPassword, LogsNameIn, RelatesNames, Replaces, TellsOfRenewal, TextRefusal}
-pub use Rattle.argon2_accounts.specs.Errors.{is_account_refusal, of_file, of_policy}
+use Rattle.argon2_store.specs.AccountFile.{Answers}
+use Rattle.argon2_store.specs.Edits.{gives, name_of, names_after}
+pub use Rattle.argon2_accounts.specs.Accounts.{Accepted, AccountFile, Admits, AdmitsName, BoundError, ChangesName, Denial, Does, Edit, FileError, Ghosts, GivesPassword, HasNames, IsFresh, IsHonest, Kept}
+pub use Rattle.argon2_accounts.specs.Accounts.{LogsIn, LogsNameIn, PasswordHash, Policy, Rehashed, RelatesNames, Replaces, Serves, Stream, TellsOfRenewal, TextRefusal, Texts, adding, changed, database_of}
+pub use Rattle.argon2_accounts.specs.Accounts.{fill_bytes, get, is_account_refusal, max_len, of_file, of_policy, phc_of, policy_value, reads, replacing, result_map_both, setting, text_of}
 pub use Rattle.argon2_rows.proofs.TableLemmas.{err_is}
 
 -- ---- names

@@ -1,30 +1,30 @@
--- What calls on accounts do to the names of their file.
+-- What calls on accounts do to the names of their file, and the words that their contracts share.
 use Rattle.std.specs.Prelude.{◌≡◌, ◌⊎◌, ℕ, ◌<◌, List, [], ◌∷◌, false, Option, Some, None, IsSomeAnd, MatchResult, Result, Ok, Err, IsTrue, length}
-use Rattle.std.specs.FinMap.{get}
-use Rattle.std.specs.Result.{result_map_both}
-use Rattle.rand_core.specs.Stream.{Stream, fill_bytes}
-use Rattle.sqlite_trees.specs.declared.store.Store.{Ghosts}
-use Rattle.argon2_base.specs.PhcFields.{phc_of}
+pub use Rattle.std.specs.FinMap.{get}
+pub use Rattle.std.specs.Result.{result_map_both}
+pub use Rattle.rand_core.specs.Stream.{Stream, fill_bytes}
+pub use Rattle.sqlite_trees.specs.declared.store.Store.{Ghosts}
+pub use Rattle.argon2_base.specs.PhcFields.{phc_of}
 use Rattle.argon2_base.specs.PhcText.{Phc, PhcText, phc_text}
 use Rattle.argon2_base.specs.declared.error.password_hash.Error.TheVariants.{EncodingInvalid, PasswordInvalid}
-use Rattle.argon2_base.specs.declared.phc.hash.PasswordHash.{PasswordHash}
-use Rattle.argon2.specs.TextHashing.{IsFresh, Target}
+pub use Rattle.argon2_base.specs.declared.phc.hash.PasswordHash.{PasswordHash}
+pub use Rattle.argon2.specs.TextHashing.{IsFresh, Target}
 use Rattle.argon2.specs.NamedTexts.{IsText, stream_after}
-use Rattle.argon2.specs.Refusals.{max_len}
-use Rattle.argon2.specs.declared.bound.BoundError.{BoundError}
-use Rattle.argon2.specs.declared.login.answers.Accepted.{Accepted}
-use Rattle.argon2.specs.declared.login.answers.Accepted.TheVariants.{Kept, Rehashed}
-use Rattle.argon2_policy.specs.Policy.{Admits, Denial, LogsIn, MakingRefusal, Policy}
+pub use Rattle.argon2.specs.Refusals.{max_len}
+pub use Rattle.argon2.specs.declared.bound.BoundError.{BoundError}
+pub use Rattle.argon2.specs.declared.login.answers.Accepted.{Accepted}
+pub use Rattle.argon2.specs.declared.login.answers.Accepted.TheVariants.{Kept, Rehashed}
+pub use Rattle.argon2_policy.specs.Policy.{Admits, Denial, LogsIn, MakingRefusal, Policy, policy_value}
 use Rattle.argon2_rows.specs.Locks.{is_locked}
-use Rattle.argon2_rows.specs.Names.{Texts, changed}
-use Rattle.argon2_rows.specs.Table.{IsHonest}
-use Rattle.argon2_store.specs.AccountFile.{HasNames, Serves, database_of}
-use Rattle.argon2_store.specs.Edits.{Edit, replacing, text_of}
-use Rattle.argon2_store.specs.Runs.{Does, reads}
-use Rattle.argon2_store.specs.declared.account_file.AccountFile.{AccountFile}
-use Rattle.argon2_store.specs.declared.error.FileError.{FileError}
-use Rattle.argon2_accounts.specs.Errors.{is_account_refusal, of_file, of_policy}
-use Rattle.argon2_accounts.specs.declared.error.AccountError.{AccountError}
+pub use Rattle.argon2_rows.specs.Names.{Texts, changed}
+pub use Rattle.argon2_rows.specs.Table.{IsHonest}
+pub use Rattle.argon2_store.specs.AccountFile.{HasNames, IsClosed, Serves, database_of}
+pub use Rattle.argon2_store.specs.Edits.{Edit, adding, replacing, setting, text_of}
+pub use Rattle.argon2_store.specs.Runs.{Does, reads}
+pub use Rattle.argon2_store.specs.declared.account_file.AccountFile.{AccountFile}
+pub use Rattle.argon2_store.specs.declared.error.FileError.{FileError}
+pub use Rattle.argon2_accounts.specs.Errors.{is_account_refusal, of_file, of_policy}
+pub use Rattle.argon2_accounts.specs.declared.error.AccountError.{AccountError}
 use Rattle.argon2_accounts.specs.declared.error.AccountError.TheVariants.{NameUnknown, OutOfMemory, Refused}
 
 -- the text accepts the password within the bound

@@ -1,15 +1,8 @@
 //! Names with passwords in a file.
 
 ghost use Rattle.std.specs.Prelude.{◌≡◌, ◌⊎◌, IfErr, IfOk, IsTrue, OnErr, Some};
-ghost use Rattle.std.specs.FinMap.{get};
-ghost use Rattle.rand_core.specs.Stream.{fill_bytes};
-ghost use Rattle.argon2_policy.specs.Policy.{policy_value};
-ghost use Rattle.argon2_rows.specs.Names.{Texts};
-ghost use Rattle.argon2_rows.specs.Table.{IsHonest};
-ghost use Rattle.argon2_store.specs.AccountFile.{HasNames, IsClosed, database_of};
-ghost use Rattle.argon2_store.specs.Edits.{adding, setting, text_of};
 ghost use Rattle.argon2_accounts.specs.Accounts.{ChangesName, DrawsForChange, DrawsForLogin, GivesPassword, LogsNameIn, OnlyReads, RelatesNames, Replaces, Stores, TellsOf, TellsOfRenewal, TextRefusal};
-ghost use Rattle.argon2_accounts.specs.Errors.{is_account_refusal};
+ghost use Rattle.argon2_accounts.specs.Accounts.{HasNames, IsClosed, IsHonest, Texts, adding, database_of, fill_bytes, get, is_account_refusal, policy_value, setting, text_of};
 
 use crate::error::AccountError;
 use argon2::PasswordHash;
