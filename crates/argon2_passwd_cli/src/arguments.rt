@@ -68,27 +68,18 @@ the bound, or if --skip passed over a line. If it is not 0, standard error says 
 pub fn parsed<'a>(alloc: Global, words: &'a [String]) -> Result<Command<'a>, Error> {
     let mut command = command(alloc)?;
     let matches = command.try_get_matches_from_mut(words)?;
-    asked(alloc, &mut command, &matches)
-}
-
-// What the words ask for.
-fn asked<'a>(
-    alloc: Global,
-    command: &mut clap::Command<'_>,
-    matches: &ArgMatches<'a>,
-) -> Result<Command<'a>, Error> {
     let mut options = Options {
         secret_file: matches.get_str("secret-file"),
         old_secret_file: matches.get_str("old-secret-file"),
         explain: matches.get_flag("explain"),
-        params: params_asked(alloc, command, matches)?,
+        params: params_asked(alloc, &mut command, &matches)?,
         bound: None,
     };
     if let Some(value) = matches.get_str("bound") {
         options.bound = costs(value);
         if options.bound.is_none() {
             let why = "it is not m=M,t=T,p=P with numbers up to 4294967295";
-            return Err(invalid(command, alloc, "--bound <COSTS>", value, why)?);
+            return Err(invalid(&mut command, alloc, "--bound <COSTS>", value, why)?);
         }
     }
     let words = matches.get_strs("COMMAND").unwrap_or(&[]);
@@ -100,7 +91,7 @@ fn asked<'a>(
     };
     match action(import, words) {
         Some(action) => Ok(Command { options, action }),
-        None => Err(unknown(command, alloc, words)?),
+        None => Err(unknown(&mut command, alloc, words)?),
     }
 }
 
@@ -249,11 +240,11 @@ fn command<'a>(alloc: Global) -> Result<clap::Command<'a>, AllocError> {
         .override_usage(USAGE)
         .no_binary_name(true)
         .args_override_self(true);
-    with_words(alloc, with_options(alloc, command)?)
+    with_arguments(alloc, command)
 }
 
-// With the options that have values.
-fn with_options<'a>(
+// With the options, those that have values first, and the command's words.
+fn with_arguments<'a>(
     alloc: Global,
     command: clap::Command<'a>,
 ) -> Result<clap::Command<'a>, AllocError> {
@@ -265,15 +256,8 @@ fn with_options<'a>(
         "The file's bytes, 1 to 4096 of them, are the secret of all texts"))?;
     let command = command.arg(arg!(in alloc; --"old-secret-file" <PATH>
         "A text that the secret refuses is tried under these bytes, 0 to 4096, and renewed under the secret"))?;
-    command.arg(arg!(in alloc; --keyid <ID>
-        "New texts have `keyid=ID`, which names the secret: Base64 of at most 8 bytes"))
-}
-
-// With the command's words, and the options that belong to some of them.
-fn with_words<'a>(
-    alloc: Global,
-    command: clap::Command<'a>,
-) -> Result<clap::Command<'a>, AllocError> {
+    let command = command.arg(arg!(in alloc; --keyid <ID>
+        "New texts have `keyid=ID`, which names the secret: Base64 of at most 8 bytes"))?;
     let command = command.arg(arg!(in alloc; --"any-text"
         "`import` takes texts of bcrypt, scrypt, PBKDF2, yescrypt, SHA-crypt, MD5-crypt, LDAP and Django too"))?;
     let command = command.arg(arg!(in alloc; --skip

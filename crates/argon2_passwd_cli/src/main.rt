@@ -30,16 +30,14 @@ fn main(rt: HostRuntime) -> ExitCode {
     let mut command = match arguments::parsed(rt.alloc(), words.as_slice()) {
         Ok(command) => command,
         Err(error) => {
-            let status = answer(PROGRAM, &error, &mut output, &mut errors);
-            return ExitCode::from(status);
+            return ExitCode::from(answer(PROGRAM, &error, &mut output, &mut errors));
         }
     };
     let mut input = input.take(most_input(&command));
     let line = match text_line(rt.alloc(), &command, &mut input) {
         Ok(line) => line,
         Err(failure) => {
-            let status = failure.report(PROGRAM, "standard input", &mut errors);
-            return ExitCode::from(status);
+            return ExitCode::from(failure.report(PROGRAM, "standard input", &mut errors));
         }
     };
     if let Some(line) = &line {
