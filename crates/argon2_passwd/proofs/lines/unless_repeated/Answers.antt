@@ -5,6 +5,3 @@ use Rattle.argon2_passwd.proofs.lines.unless_repeated.Goals as goal
 pub returns-then-branch-clause-names : goal.returns-then-branch-clause-names
 returns-then-branch-clause-names c = λ name. let same = is_eq-slice_cmp c.in-Ok.name.now name in
     let new = c.in_ok-insert.ensures.updates.0 (record { ref_ptr = (0, 0); now = name }) in grind arith
-
-pub returns-else-branch-clause-said : goal.returns-else-branch-clause-said
-returns-else-branch-clause-said c = grind arith
