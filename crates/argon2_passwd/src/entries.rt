@@ -1,6 +1,6 @@
 //! A name with its text, a line of standard input.
 
-ghost use Rattle.std.specs.Prelude.{◌≡◌, false, true, IfErr, IfOk, IfSome, MatchOption};
+ghost use Rattle.std.specs.Prelude.{◌≡◌, IfErr, IfOk, IfSome, MatchOption};
 ghost use Rattle.argon2_passwd.specs.Lines.{IsNotTaken, IsTaken, has_control, has_scheme, parts_now, parts_of};
 ghost use Rattle.argon2_passwd.specs.Failures.{status_of};
 
@@ -26,42 +26,15 @@ pub fn read_all<R: BufRead>(alloc: Global, input: &mut R) -> Result<Vec<u8>, Fai
     }
 }
 
-/// A text that may be added.
+/// A text that may be added: one of Argon2 with valid settings; if any is taken, one in the grammar, or of another scheme.
 pub fn stored(text: &str, any_text: bool) -> Option<StoredText<'_>>
     ensures { MatchOption result (IsNotTaken any_text text.now)
         (λ it. (it.text.now ≡ text.now) × IsTaken any_text text.now) }
 {
-    if any_text {
-        of_any_scheme(text)
-    } else {
-        of_argon2(text)
-    }
-}
-
-// A text of Argon2 with valid settings.
-fn of_argon2(text: &str) -> Option<StoredText<'_>>
-    ensures { MatchOption result (IsNotTaken false text.now)
-        (λ it. (it.text.now ≡ text.now) × IsTaken false text.now) }
-{
-    let Ok((text, hash)) = StoredText::new(text) else {
-        return None;
-    };
-    if Settings::try_from(&hash).is_ok() {
-        Some(text)
-    } else {
-        None
-    }
-}
-
-// A text in the grammar, or of another scheme.
-fn of_any_scheme(text: &str) -> Option<StoredText<'_>>
-    ensures { MatchOption result (IsNotTaken true text.now)
-        (λ it. (it.text.now ≡ text.now) × IsTaken true text.now) }
-{
     match StoredText::new(text) {
-        Ok((text, _)) => Some(text),
-        Err(_) if has_scheme(text) => StoredText::of_line(text),
-        Err(_) => None,
+        Ok((text, hash)) if any_text || Settings::try_from(&hash).is_ok() => Some(text),
+        Err(_) if any_text && has_scheme(text) => StoredText::of_line(text),
+        _ => None,
     }
 }
 
