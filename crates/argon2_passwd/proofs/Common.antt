@@ -2,37 +2,25 @@
 pub use Rattle.std.proofs.Common.{[], add-one, ap, append-nil, append_assoc, arith, Bool, Bor, drop, drop-cons, Err, false, get_or, inl, inr, length, List, lit<, map, min, None, Ok, Option, refl}
 pub use Rattle.std.proofs.Common.{Result, rules, Some, subst, suc, sym, take, true, ℕ, ⊎_elim, ◌++◌, ◌+◌, ◌<◌, ◌==◌, ◌||◌, ◌∙◌, ◌∷◌, ◌≡◌, ◌≢◌, ◌⊎◌}
 pub use Rattle.std.proofs.lemmas.Option.{IfSome_then}
-pub use Rattle.std.specs.Io.BufRead.{drop_through, DropsThrough, strip_last}
-pub use Rattle.std.specs.Io.KnownBytes.{Appends, Keeps, WriteAppends}
-pub use Rattle.std.specs.Prelude.{All, IfOk, IfSome, IsTrue, MatchOption, String, string_bytes}
-pub use Rattle.sqlite_trees.specs.declared.store.Store.{Ghosts}
-use Rattle.argon2_base.specs.PhcText.{Phc}
-use Rattle.argon2.specs.declared.bound.BoundError.{BoundError}
-pub use Rattle.argon2_rows.specs.Names.{entry_of, Texts}
-pub use Rattle.argon2_rows.proofs.TableLemmas.{err_is, quiet_then}
-pub use Rattle.std.proofs.lemmas.Result.{err_from_is_err_and}
-pub use Rattle.argon2_store.specs.AccountFile.{database_of, HasCause, HasFailedBy, HasNames, IsClosed, Reads, Serves, Stays}
-use Rattle.argon2_store.specs.Errors.{is_refusal}
-pub use Rattle.argon2_store.specs.declared.account_file.AccountFile.{AccountFile}
-pub use Rattle.argon2_store.specs.declared.error.FileError.{FileError}
-pub use Rattle.argon2_passwd.specs.Answers.{AddsEntries, answer_without_text, behind, IsDenied, IsLooked, IsOpened, IsOpenFor, IsUnfound, Looks, OfPassword}
-pub use Rattle.argon2_passwd.specs.Lines.{AreSaid, entries_in, entry_or_flaw, first_of_each, flaws_from, has_name, has_scheme, IsEntryOrFlaw, IsForeign, IsOfFirst, IsTaken, Line, line_has_name}
-pub use Rattle.argon2_passwd.specs.Lines.{new_line, parts_now, unless_known, unmarked, with_name}
-pub use Rattle.argon2_passwd.specs.Passwords.{line_of, password_of}
-use Rattle.argon2_passwd.specs.Failures.{IsMemory, IsOfFile, IsOfWrite, status_of}
-use Rattle.argon2_passwd.specs.declared.failure.Failure.{Failure}
-pub use Rattle.argon2_base.specs.PhcFields.{phc_of}
-pub use Rattle.argon2_passwd.specs.declared.failure.Flaw.{Flaw}
-pub use Rattle.argon2_programs.specs.Schemes.{scheme_of}
-pub use Rattle.argon2_rows.specs.Locks.{behind_lock, is_locked, IsLine, IsStored, without_lock}
-pub use Rattle.argon2_rows.specs.Table.{IsHonest}
-pub use Rattle.argon2_rows.specs.declared.text.StoredText.{StoredText}
-pub use Rattle.argon2_store.specs.declared.error.FileError.TheVariants.{Damaged, NameTaken}
 pub use Rattle.std.proofs.lemmas.Grind.{common_steps}
+pub use Rattle.std.proofs.lemmas.Result.{err_from_is_err_and}
+pub use Rattle.std.specs.Io.BufRead.{drop_through, DropsThrough, strip_last}
+pub use Rattle.std.specs.Io.KnownBytes.{WriteAppends}
 pub use Rattle.std.specs.List.{after_first, AllZip, before_first, IsFirstMatchOrLen, list_any, slice_get, slice_split}
-pub use Rattle.std.specs.Option.{is_some, option_copied, option_map, unwrap_or}
+pub use Rattle.std.specs.Option.{is_some, option_copied, unwrap_or}
+pub use Rattle.std.specs.Prelude.{All, IfOk, IfSome, IsTrue, MatchOption, String, string_bytes}
 pub use Rattle.std.specs.Str.{bytes_eq, is_utf8}
 pub use Rattle.std.specs.Str.Lines.{lines, lines_of_parts, strip_carriage_return}
+pub use Rattle.argon2_rows.proofs.TableLemmas.{err_is, quiet_then}
+pub use Rattle.argon2_rows.specs.Locks.{behind_lock, without_lock}
+pub use Rattle.argon2_store.specs.AccountFile.{HasCause, HasFailedBy, IsClosed, Reads}
+pub use Rattle.argon2_store.specs.declared.error.FileError.TheVariants.{Damaged}
+pub use Rattle.argon2_passwd.specs.Answers.{AccountFile, AddsEntries, additions, answer_without_text, Appends, AreSaid, behind, Bor, database_of, entries_in, entry_of, entry_or_flaw, FileError, first_of_each}
+pub use Rattle.argon2_passwd.specs.Answers.{Flaw, flaws_from, get, Ghosts, HasNames, is_locked, IsHonest, IsLooked, IsOfFirst, IsOpened, IsOpenFor, IsUnfound, Keeps, Line, Looks, NameTaken, next_salt, OfPassword}
+pub use Rattle.argon2_passwd.specs.Answers.{option_map, password_of, phc_of, scheme_of, Serves, Stays, StoredText, Texts, unless_known}
+pub use Rattle.argon2_passwd.specs.Lines.{has_name, IsEntryOrFlaw, IsTaken, line_has_name, new_line, parts_now, unmarked, with_name}
+pub use Rattle.argon2_passwd.specs.Passwords.{line_of}
+use Rattle.argon2_passwd.specs.Answers.{BoundError, Failure, is_refusal, IsDenied, IsMemory, IsOfFile, Phc, status_of}
 
 pub keeps_same : (known : Option (List ℕ)) → Keeps known known
 keeps_same known = grind arith
@@ -64,10 +52,6 @@ said_of input any_text read said same are =
 -- out of memory is no refusal
 pub memory_is : (f : Failure) → IsMemory f → status_of f ≡ 3
 memory_is f memory = grind arith
-
--- nor is a failed write
-pub refusal_of_write : {A : Type 0} (f : Failure) → IsOfWrite f → status_of f ≢ 3 → A
-refusal_of_write f of isnt = absurd (grind arith)
 
 -- nor is an error of the file
 pub no_refusal : (e : FileError) (f : Failure) → IsOfFile e f → is_refusal e ≡ false → status_of f ≡ 3

@@ -1,8 +1,7 @@
 -- Look-ups in a file, one after the other.
-use Rattle.argon2_passwd.proofs.Common.{AccountFile, AddsEntries, arith, database_of, entries_in, FileError, Flaw, flaws_from, Ghosts, HasCause, HasFailedBy, HasNames, IfSome_then, inl, inr, IsClosed}
+use Rattle.argon2_passwd.proofs.Common.{AccountFile, additions, AddsEntries, arith, database_of, entries_in, FileError, Flaw, flaws_from, Ghosts, HasCause, HasFailedBy, HasNames, IfSome_then, inl, inr, IsClosed}
 use Rattle.argon2_passwd.proofs.Common.{IsHonest, Line, List, Looks, map, None, Option, quiet_then, refl, Result, Serves, Stays, subst, sym, Texts, unless_known, ℕ, ◌≡◌}
 use Rattle.sqlite_trees.specs.declared.error.StoreError.{StoreError}
-use Rattle.argon2_store.specs.Edits.{additions}
 
 -- the same cause, of other facts
 caused : {closed shut : Type 0} {fault failed : StoreError → Type 0} (e : FileError) → (closed → shut)

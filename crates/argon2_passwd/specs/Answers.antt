@@ -1,51 +1,47 @@
--- What the program answers.
+-- What the program answers. The words that the contracts share with it are passed on.
 use Rattle.std.specs.Prelude.{◌≡◌, ◌≢◌, ◌⊎◌, ℕ, ◌||◌, false, Bool, ◌+◌, IsTrue, List, [], ◌∷◌, ◌++◌, Option, Some, None, IfSome, Result, Ok, Err, IfOk, IsErrAnd, is_ok, if◌then◌else◌, IsSomeAnd, map}
 use Rattle.std.specs.Io.BufRead.{drop_through}
-use Rattle.std.specs.Borrow.{Bor}
-use Rattle.std.specs.Option.{option_map}
-use Rattle.std.specs.Io.KnownBytes.{Appends, Keeps}
-use Rattle.std.specs.FinMap.{get}
-use Rattle.argon2_base.specs.PhcText.{Phc, PhcText, phc_text}
+pub use Rattle.std.specs.Option.{option_map}
+pub use Rattle.std.specs.Io.KnownBytes.{Appends, Keeps}
+pub use Rattle.argon2_base.specs.PhcFields.{phc_of}
+use Rattle.argon2_base.specs.PhcText.{phc_text}
 use Rattle.argon2_base.specs.declared.error.password_hash.Error.TheVariants.{EncodingInvalid, PasswordInvalid}
-use Rattle.sqlite_trees.specs.declared.store.Store.{Ghosts}
+pub use Rattle.rand_core.specs.Stream.{fill_bytes}
+pub use Rattle.sqlite_trees.specs.declared.store.Store.{Ghosts}
 use Rattle.argon2.specs.Login.{accepted_text}
-use Rattle.argon2.specs.TextHashing.{IsFresh}
-use Rattle.argon2.specs.declared.bound.BoundError.{BoundError}
+pub use Rattle.argon2.specs.TextHashing.{IsFresh}
 use Rattle.argon2.specs.declared.bound.BoundError.TheVariants as bound
 use Rattle.argon2.specs.declared.login.answers.Accepted.{Accepted}
 use Rattle.argon2.specs.declared.login.answers.Accepted.TheVariants.{Kept, Rehashed}
-use Rattle.argon2_policy.specs.Policy.{Admits, ChangeRefusal, Denial, IsPolicy, LogsIn, Policy}
+pub use Rattle.argon2_policy.specs.Policy.{Admits, ChangeRefusal, Denial, IsPolicy, LogsIn, Policy, policy_value}
 use Rattle.argon2_programs.specs.Lines.{AppendsFront}
-use Rattle.argon2_programs.specs.Schemes.{scheme_of}
-use Rattle.argon2_rows.specs.Locks.{is_locked}
-use Rattle.argon2_rows.specs.Names.{IsFirstTaken, Texts}
+pub use Rattle.argon2_rows.specs.Locks.{is_locked}
+pub use Rattle.argon2_rows.specs.Names.{IsFirstTaken, Texts, entry_of}
 use Rattle.argon2_rows.specs.Rows.{breaks_line}
-use Rattle.argon2_rows.specs.Table.{IsHonest}
+pub use Rattle.argon2_rows.specs.Table.{IsHonest}
 use Rattle.argon2_rows.specs.declared.view.View.TheVariants as views
-use Rattle.argon2_store.specs.AccountFile.{HasNames, IsReady, Serves, Stays, WritesLines, error_of, database_of}
-use Rattle.argon2_store.specs.Edits.{Edit as FileEdit, adding, additions, locking, removing, replacing, setting, text_of, unlocking}
+pub use Rattle.argon2_store.specs.AccountFile.{HasNames, IsReady, Serves, Stays, WritesLines, error_of, database_of}
+use Rattle.argon2_store.specs.Edits.{Edit as FileEdit, adding, locking, removing, replacing, setting, text_of, unlocking}
+pub use Rattle.argon2_store.specs.Edits.{additions}
 use Rattle.argon2_store.specs.Errors.{read_by}
-use Rattle.argon2_store.specs.declared.account_file.AccountFile.{AccountFile}
-use Rattle.argon2_store.specs.declared.error.FileError.{FileError}
-use Rattle.argon2_store.specs.declared.error.FileError.TheVariants.{NameTaken, NameUnknown}
-use Rattle.argon2_store.specs.declared.error.LineError.{LineError}
-use Rattle.argon2_passwd.specs.Options.{policy_by}
+pub use Rattle.argon2_store.specs.declared.account_file.AccountFile.{AccountFile}
+pub use Rattle.argon2_store.specs.declared.error.FileError.TheVariants.{NameTaken, NameUnknown}
+pub use Rattle.argon2_passwd.specs.Options.{policy_by}
 use Rattle.argon2_passwd.specs.declared.command.Action.{Action}
 use Rattle.argon2_passwd.specs.declared.command.Action.TheVariants.{Hash, Check, OnFile}
 use Rattle.argon2_passwd.specs.declared.command.Task.TheVariants.{Verify, Edit as Edits, Show, Import, ImportOthers}
 use Rattle.argon2_passwd.specs.declared.options.Options.{Options}
 use Rattle.argon2_passwd.specs.declared.command.Edit.{Edit}
 use Rattle.argon2_passwd.specs.declared.command.Edit.TheVariants.{Register, Change, Set, Remove, Lock, Unlock}
-use Rattle.argon2_passwd.specs.Failures.{IsOfBound, IsOfFile, IsOfLines, IsOfWrite, status_of}
-use Rattle.argon2_passwd.specs.Passwords.{IsUnread, password_of}
-use Rattle.argon2_passwd.specs.Salts.{IsSalt}
-use Rattle.argon2_passwd.specs.declared.failure.Failure.{Failure}
-use Rattle.argon2_passwd.specs.declared.failure.Flaw.{Flaw}
-use Rattle.argon2_passwd.specs.declared.failure.Flaw.TheVariants.{Taken}
-use Rattle.argon2_passwd.specs.declared.failure.Failure.TheVariants.{File, Line as AtLine, Name, Params, Passed, Refused, Scheme}
+pub use Rattle.argon2_passwd.specs.Passwords.{IsUnread, password_of}
+pub use Rattle.argon2_passwd.specs.Salts.{IsSalt, next_salt}
 use Rattle.argon2_passwd.specs.declared.run.edits.Step.{Step}
 use Rattle.argon2_passwd.specs.declared.run.edits.Step.TheVariants as step
-use Rattle.argon2_passwd.specs.Lines.{AreSaid, IsOfFirst, Line, entries_in, first_of_each, flaws_from, has_control, unless_known}
+pub use Rattle.argon2_passwd.specs.Failures.{BoundError, Failure, FileError, IsMemory, IsOfBound, IsOfFile, IsOfLines, IsOfWrite, LineError, Params, is_refusal, status_by, status_of}
+use Rattle.argon2_passwd.specs.Failures.{File, Line as AtLine, Name, Passed, Refused, Scheme}
+pub use Rattle.argon2_passwd.specs.Lines.{AreSaid, Bor, Flaw, IsOfFirst, Line, Phc, PhcText, StoredText, entries_in, entry_or_flaw, first_of_each, flaws_from, get, scheme_of, unless_known}
+use Rattle.argon2_passwd.specs.Lines.{Taken, has_control}
+pub use Rattle.argon2_passwd.specs.News.{news_of, news_text}
 
 -- the bytes of a stream, if these are known
 abbrev pub Known : Type 0
@@ -89,20 +85,10 @@ IsDenied Why None failure = failure ≡ File NameUnknown
 IsDenied Why (Some text) failure = IsShut text failure
     ⊎ ((v : Phc) × (e : BoundError) × SaysHash text v × Why v e × IsOfBound e failure)
 
--- why a check by a text is refused, or fails: there is no password, or the text does not accept it
-abbrev pub IsUnchecked : Policy → List ℕ → Known → Failure → Type 0
-IsUnchecked policy text input failure = IsUnread input failure
-    ⊎ OfPassword (λ password. IsDenied (Denial policy password) (Some text) failure) input
-
 -- the secret of the file at a path, if there is one
 abbrev pub IsSecret : (List ℕ → List ℕ → Type 0) → Option (Bor (List ℕ)) → Option (List ℕ) → Type 0
 IsSecret Holds None secret = secret ≡ None
 IsSecret Holds (Some path) secret = IsSomeAnd secret (Holds path.now)
-
--- a fact of the policy that the options and their secrets make
-abbrev pub Under : (List ℕ → List ℕ → Type 0) → Options → (Policy → Type 0) → Type 0
-Under Holds options P = (secret old : Option (List ℕ)) × IsSecret Holds options.secret_file secret
-    × IsSecret Holds options.old_secret_file old × P (policy_by options secret old)
 
 -- ---- accounts in a file
 
@@ -182,10 +168,14 @@ TellsOf IsOf (Ok x) (Ok y) = y ≡ x
 TellsOf IsOf (Err e) (Err failure) = IsOf e failure
 TellsOf IsOf _ _ = ⊥
 
--- what is written of a login, and the result: what it did, or a front of that if a write fails; or nothing if it is refused
+-- a line was written, or a front of it if a write fails
+abbrev pub Says : List ℕ → Outcome → Known → Known → Type 0
+Says line (Ok _) old new = Appends old new line
+Says line (Err failure) old new = IsOfWrite failure × AppendsFront old new line
+
+-- what a login did was said, or nothing if it is refused
 abbrev pub SaysLogin : Result Accepted Failure → Outcome → Known → Known → Type 0
-SaysLogin (Ok did) (Ok _) old new = Appends old new (accepted_text did ++ 10 ∷ [])
-SaysLogin (Ok did) (Err failure) old new = IsOfWrite failure × AppendsFront old new (accepted_text did ++ 10 ∷ [])
+SaysLogin (Ok did) result old new = Says (accepted_text did ++ 10 ∷ []) result old new
 SaysLogin (Err why) result old new = (result ≡ Err why) × Keeps old new
 
 -- a call of which its result tells, or a file that was not opened, which is no refusal
@@ -195,7 +185,8 @@ Ends Made untouched result = Made result ⊎ (untouched × IsErrAnd result (λ f
 -- the words or the input are refused with this failure before a file is opened
 abbrev pub IsUnfit : Policy → Action → Known → Failure → Type 0
 IsUnfit policy Hash input failure = IsUnread input failure
-IsUnfit policy (Check text) input failure = IsUnchecked policy text.now input failure
+IsUnfit policy (Check text) input failure = IsUnread input failure
+    ⊎ OfPassword (λ password. IsDenied (Denial policy password) (Some text.now) failure) input
 IsUnfit policy (OnFile path (Verify name)) input failure = IsUnread input failure
 IsUnfit policy (OnFile path (Edits Register name)) input failure =
     (IsTrue (breaks_lines name.now) × (failure ≡ Name)) ⊎ IsUnread input failure
@@ -214,13 +205,10 @@ OfLine Gives policy (Check text) input P = OfPassword (λ password.
     × LogsIn policy password drawn v (Ok did) w × P (login_text did w ++ 10 ∷ [])) input
 OfLine Gives policy _ input P = ⊥
 
--- How a command ended that opened no file: it is answered, or refused before. Nothing but a failed write leaves a front of
--- the answer.
+-- How a command ended that opened no file: its answer was said, or nothing, since it is refused before or fails.
 abbrev pub IsAnswered : (List ℕ → Type 0) → Policy → Action → Outcome → Known → Known → Known → Type 0
-IsAnswered Gives policy what (Ok _) input old new = OfLine Gives policy what input (Appends old new)
-IsAnswered Gives policy what (Err failure) input old new =
-    (status_of failure ≢ 3 → IsUnfit policy what input failure)
-    × ((IsOfWrite failure × OfLine Gives policy what input (AppendsFront old new)) ⊎ Keeps old new)
+IsAnswered Gives policy what result input old new = OfLine Gives policy what input (λ line. Says line result old new)
+    ⊎ (Keeps old new × IsErrAnd result (λ failure. status_of failure ≢ 3 → IsUnfit policy what input failure))
 
 module _ {S : Type 0} (g : Ghosts S) (Has : List ℕ → Texts → Type 0) where
   -- the file at a path was opened, used so, and closed with this store
@@ -251,11 +239,6 @@ module _ {S : Type 0} (g : Ghosts S) (Has : List ℕ → Texts → Type 0) where
   IsUnfound Why path name Closed failure =
       ((o : Option (List ℕ)) × IsDenied Why o failure × IsLooked path name (Ok o) (λ read. Closed (read ∷ [])))
       ⊎ ((e : FileError) × IsOfFile e failure × IsLooked path name (Err e) (λ read. Closed (read ∷ [])))
-
-  -- no name was changed, with this error of the file if there was one, and this is a fact of its names
-  abbrev pub IsOnlyRead : List ℕ → Option FileError → (Texts → Type 0) → (List S → Type 0) → Type 0
-  IsOnlyRead path error Shows = IsDone path (λ before after. (names : Texts) → HasNames before names
-      → Stays error names before after × (IsHonest g (database_of after) → Shows names))
 
 module _ {S : Type 0} (g : Ghosts S) (Has : List ℕ → Texts → Type 0) (Gives : List ℕ → Type 0) where
   -- A login with the password was all that was done with the file at a path, with this result. If the text accepts the
@@ -295,7 +278,9 @@ module _ {S : Type 0} (g : Ghosts S) (Has : List ℕ → Texts → Type 0) (Give
       Keeps old new × IsChange policy path.now act name.now input Closed result
   IsUsed policy (OnFile path (Show view)) result input old new Closed =
       (done : Result (Unit {0}) LineError) × TellsOf IsOfLines done result
-      × IsOnlyRead g Has path.now (error_of (read_by done)) (λ names. WritesLines view names old new done) Closed
+      × IsDone g Has path.now (λ before after. (names : Texts) → HasNames before names
+      → Stays (error_of (read_by done)) names before after
+      × (IsHonest g (database_of after) → WritesLines view names old new done)) Closed
   IsUsed policy (OnFile path (Import any_text)) result input old new Closed =
       Keeps old new × OfLines any_text input (λ said.
       (flaws_from 1 said ≡ []) × IsDone g Has path.now (AddsLines result (entries_in said)) Closed)
@@ -315,6 +300,7 @@ module _ {S : Type 0} (g : Ghosts S) (Has : List ℕ → Texts → Type 0) (Give
       → (List S → Type 0) → Type 0
   IsEnded Holds options what result input old new Closed =
       (Closed [] × IsErrAnd result (λ failure. status_of failure ≡ 3) × Keeps old new)
-      ⊎ Under Holds options (λ policy.
-      (Closed [] × ¬ (IsPolicy policy) × IsErrAnd result (λ failure. failure ≡ Params) × Keeps old new)
-      ⊎ IsServed policy what result input old new Closed)
+      ⊎ ((secret prior : Option (List ℕ)) × IsSecret Holds options.secret_file secret
+      × IsSecret Holds options.old_secret_file prior
+      × ((Closed [] × ¬ (IsPolicy (policy_by options secret prior)) × IsErrAnd result (λ failure. failure ≡ Params) × Keeps old new)
+      ⊎ IsServed (policy_by options secret prior) what result input old new Closed))

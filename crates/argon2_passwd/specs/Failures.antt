@@ -1,14 +1,14 @@
 -- Why the program fails.
 use Rattle.std.specs.Prelude.{◌≡◌, ◌≢◌, ⊤, ℕ, if◌then◌else◌, Result, Ok, Err}
 use Rattle.argon2_base.specs.declared.error.password_hash.Error.TheVariants.{OutOfMemory, PasswordInvalid}
-use Rattle.argon2.specs.declared.bound.BoundError.{BoundError}
+pub use Rattle.argon2.specs.declared.bound.BoundError.{BoundError}
 use Rattle.argon2.specs.declared.bound.BoundError.TheVariants as bound
-use Rattle.argon2_passwd.specs.declared.failure.Failure.{Failure}
-use Rattle.argon2_passwd.specs.declared.failure.Failure.TheVariants.{NoPassword, LongPassword, Name, Params, Refused, Scheme, Line, Passed, Unopened, File, BrokenLine, Output, Unread, Memory}
-use Rattle.argon2_store.specs.Errors.{is_refusal}
-use Rattle.argon2_store.specs.declared.error.FileError.{FileError}
+pub use Rattle.argon2_passwd.specs.declared.failure.Failure.{Failure}
+pub use Rattle.argon2_passwd.specs.declared.failure.Failure.TheVariants.{NoPassword, LongPassword, Name, Params, Refused, Scheme, Line, Passed, Unopened, File, BrokenLine, Output, Unread, Memory}
+pub use Rattle.argon2_store.specs.Errors.{is_refusal}
+pub use Rattle.argon2_store.specs.declared.error.FileError.{FileError}
 use Rattle.argon2_store.specs.declared.error.FileError.TheVariants as file
-use Rattle.argon2_store.specs.declared.error.LineError.{LineError}
+pub use Rattle.argon2_store.specs.declared.error.LineError.{LineError}
 use Rattle.argon2_store.specs.declared.error.LineError.TheVariants as lines
 use Rattle.argon2_store.specs.declared.error.OpenError.{OpenError}
 use Rattle.argon2_store.specs.declared.error.OpenError.TheVariants as no

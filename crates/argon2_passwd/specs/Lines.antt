@@ -1,6 +1,6 @@
 -- The lines of an import: names with texts.
 use Rattle.std.specs.Prelude.{◌≡◌, ◌⊎◌, ℕ, suc, ◌==◌, true, false, Bool, IsOk, IsTrue, List, [], ◌∷◌, if◌then◌else◌, Result, Ok, Err}
-use Rattle.std.specs.Borrow.{Bor}
+pub use Rattle.std.specs.Borrow.{Bor}
 use Rattle.std.specs.List.{AllZip, after_first, before_first, list_any}
 use Rattle.std.specs.Option.{is_some}
 use Rattle.std.specs.Char.{is_control}
@@ -9,17 +9,17 @@ use Rattle.std.specs.Cmp.Lexicographic.{slice_cmp}
 use Rattle.std.specs.Ordering.{nat_cmp}
 use Rattle.std.specs.Str.{bytes_eq, chars, is_utf8}
 use Rattle.std.specs.Str.Lines.{lines}
-use Rattle.std.specs.FinMap.{get}
-use Rattle.argon2_base.specs.PhcText.{Phc, PhcText}
+pub use Rattle.std.specs.FinMap.{get}
+pub use Rattle.argon2_base.specs.PhcText.{Phc, PhcText}
 use Rattle.argon2.specs.StoredTexts.{shown_settings}
 use Rattle.argon2_programs.specs.Prefixes.{after_any, without_prefix}
-use Rattle.argon2_programs.specs.Schemes.{scheme_of}
+pub use Rattle.argon2_programs.specs.Schemes.{scheme_of}
 use Rattle.argon2_rows.specs.Locks.{IsLine, IsStored, without_lock}
 use Rattle.argon2_rows.specs.Names.{Texts, entry_of}
-use Rattle.argon2_rows.specs.declared.text.StoredText.{StoredText}
+pub use Rattle.argon2_rows.specs.declared.text.StoredText.{StoredText}
 use Rattle.argon2_passwd.specs.declared.failure.Failure.{Failure}
-use Rattle.argon2_passwd.specs.declared.failure.Flaw.{Flaw}
-use Rattle.argon2_passwd.specs.declared.failure.Flaw.TheVariants.{Control, NoText, Taken}
+pub use Rattle.argon2_passwd.specs.declared.failure.Flaw.{Flaw}
+pub use Rattle.argon2_passwd.specs.declared.failure.Flaw.TheVariants.{Control, NoText, Taken}
 use Rattle.argon2_passwd.specs.declared.failure.Failure.TheVariants.{Line as AtLine}
 
 abbrev pub parts_now : Bor (List ℕ) × Bor (List ℕ) → List ℕ × List ℕ

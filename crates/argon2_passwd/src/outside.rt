@@ -16,9 +16,7 @@ pub struct News {
 /// Where the program finds the secret, random bytes and accounts. One file is open at a time.
 pub trait Outside {
     ghost use Rattle.std.specs.Prelude.{◌≡◌, ◌++◌, ◌∷◌, [], ℕ, List, IfErr, IfOk, OnErr, OnOk};
-    ghost use Rattle.argon2_rows.specs.Names.{Texts};
-    ghost use Rattle.argon2_passwd.specs.Answers.{IsOpened};
-    ghost use Rattle.argon2_passwd.specs.Failures.{status_of};
+    ghost use Rattle.argon2_passwd.specs.Answers.{IsOpened, Texts, status_of};
     ghost use Rattle.argon2_passwd.specs.declared.outside.News.{News};
 
     /// The store of a file with accounts.

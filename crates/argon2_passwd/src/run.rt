@@ -1,25 +1,13 @@
 //! The program over any world outside it and any streams.
 
-ghost use Rattle.std.specs.Prelude.{◌≡◌, ◌≢◌, ◌≤◌, ◌⊎◌, [], ℕ, Ok, Result, vec_items, IfErr, IfOk, string_bytes, take};
-ghost use Rattle.argon2_base.specs.PhcFields.{phc_of};
-ghost use Rattle.std.specs.Io.KnownBytes.{Appends};
-ghost use Rattle.std.specs.Option.{option_map};
-ghost use Rattle.argon2_policy.specs.Policy.{IsPolicy, policy_value};
-ghost use Rattle.argon2_passwd.specs.Answers.{IsAnswered, IsEnded, IsNewText, IsSecret, SaysLogin};
-ghost use Rattle.argon2_passwd.specs.Options.{policy_by};
-ghost use Rattle.argon2_passwd.specs.News.{news_of, news_text};
-ghost use Rattle.argon2_passwd.specs.Failures.{status_by, status_of};
-ghost use Rattle.argon2_passwd.specs.Passwords.{IsUnread};
-ghost use Rattle.argon2_passwd.specs.Salts.{IsSalt, next_salt};
-ghost use Rattle.argon2_passwd.specs.declared.failure.Failure.TheVariants.{Params};
-ghost use Rattle.argon2_passwd.specs.declared.failure.Failure.{Failure as Why};
+ghost use Rattle.std.specs.Prelude.{◌≡◌, ◌≢◌, ◌≤◌, ◌⊎◌, ◌++◌, ◌∷◌, [], ℕ, vec_items, IfErr, IfOk, string_bytes, take};
+ghost use Rattle.argon2_passwd.specs.Answers.{Appends, IsAnswered, IsEnded, IsNewText, IsPolicy, IsSalt, IsSecret, IsUnread, Outcome, Params, Says, news_of, news_text, next_salt, option_map, phc_of, policy_by, policy_value, status_by, status_of};
 
 use crate::command::{Action, Command, Edit, Task};
 use crate::failure::{Failure, Flaw};
 use crate::options::Options;
 use crate::outside::{News, Outside};
 use crate::passwords::password;
-use argon2::login::Accepted;
 use argon2::{Algorithm, Argon2, PasswordHash, Version};
 use argon2_policy::Policy;
 use argon2_programs::write_line;
@@ -56,7 +44,7 @@ pub fn run<P: Outside, R: BufRead, W: Write, E: Write>(
 ) -> u8
     requires { P.closed outside.old [] }
     ensures status { result ≤ 4 }
-    ensures ended { (ended : Result (Unit {0}) Why) × (result ≡ status_by ended)
+    ensures ended { (ended : Outcome) × (result ≡ status_by ended)
         × IsEnded P.File.Store P.keeps P.gives P.holds command.entry.options
         command.entry.action ended (R.remaining input.old) (W.contents output.old)
         (W.contents output.new) (P.closed outside.new) }
@@ -130,15 +118,14 @@ fn write_passed<E: Write>(errors: &mut E, lines: &[(usize, Flaw)]) -> io::Result
 
 // Whether the failure is one of a login, which does not say if the name or the password is why.
 fn is_hidden(command: &Command<'_>, failure: &Failure) -> bool {
-    let logs_in = match command.action {
-        Action::OnFile(_, Task::Verify(_) | Task::Edit(Edit::Change, _)) => true,
-        _ => false,
-    };
-    let refuses = match failure {
-        Failure::Refused(_) => failure.status() == 1,
-        Failure::File(error) => *error == FileError::NameUnknown,
-        _ => false,
-    };
+    let logs_in = matches!(
+        command.action,
+        Action::OnFile(_, Task::Verify(_) | Task::Edit(Edit::Change, _))
+    );
+    let refuses = matches!(
+        failure,
+        Failure::Refused(_) | Failure::File(FileError::NameUnknown)
+    ) && failure.status() == 1;
     logs_in && refuses && !command.options.explain
 }
 
@@ -195,8 +182,7 @@ fn hash<P: Outside, R: BufRead, W: Write>(
         (R.remaining input.old) (W.contents output.old) (W.contents output.new) }
 {
     let hash = new_text(alloc, outside, policy, input)?;
-    write_line(output, &[hash.text().as_str().as_bytes()])?;
-    Ok(())
+    say(output, hash.text().as_str())
 }
 
 // A fresh text of the next password.
@@ -231,8 +217,7 @@ fn check<P: Outside, R: BufRead, W: Write>(
     let password = password(alloc, input)?;
     let (accepted, hash) = texts::login(policy, &mut rng, text, password.as_slice())?;
     let reply = texts::reply(alloc, accepted, &hash)?;
-    write_line(output, &[reply.as_str().as_bytes()])?;
-    Ok(())
+    say(output, reply.as_str())
 }
 
 // The secret in the file at a path, if there is one.
@@ -289,10 +274,10 @@ fn generator<P: Outside>(outside: &P) -> Result<ChaCha20Rng, Failure>
     Ok(ChaCha20Rng::from_seed(outside.seed()?))
 }
 
-// Writes what a login did.
-fn write_accepted<W: Write>(output: &mut W, accepted: Accepted) -> Result<(), Failure>
-    ensures { SaysLogin (Ok accepted) result (W.contents output.old) (W.contents output.new) }
+// Writes a line.
+fn say<W: Write>(output: &mut W, line: &str) -> Result<(), Failure>
+    ensures { Says (line.now ++ 10 ∷ []) result (W.contents output.old) (W.contents output.new) }
 {
-    write_line(output, &[accepted.as_str().as_bytes()])?;
+    write_line(output, &[line.as_bytes()])?;
     Ok(())
 }

@@ -1,18 +1,12 @@
 //! Accounts in a file.
 
 ghost use Rattle.std.specs.Prelude.{◌≡◌, ◌∷◌, ◌⊎◌, [], ℕ, List, Option, Some, Ok, IfErr, IfOk, MatchResult, OnErr, OnOk, map, string_bytes};
-ghost use Rattle.argon2_base.specs.PhcFields.{phc_of};
-ghost use Rattle.argon2_policy.specs.Policy.{policy_value};
-ghost use Rattle.argon2_rows.specs.Names.{entry_of};
-ghost use Rattle.argon2_passwd.specs.Answers.{AddsLines, Ends, IsLogin, IsLooked, IsOpened, IsServed, IsUnfound, SaysHash};
-ghost use Rattle.argon2_passwd.specs.Failures.{status_of};
-ghost use Rattle.argon2_passwd.specs.Salts.{IsSalt};
-ghost use Rattle.rand_core.specs.Stream.{fill_bytes};
+ghost use Rattle.argon2_passwd.specs.Answers.{AddsLines, Ends, IsLogin, IsLooked, IsOpened, IsSalt, IsServed, IsUnfound, SaysHash, entry_of, fill_bytes, phc_of, policy_value, status_of};
 
 use super::edits::{Step, call, edit};
 use super::others::import_others;
 use super::texts::read;
-use super::{check, generator, hash, write_accepted};
+use super::{check, generator, hash, say};
 use crate::command::{Action, Task};
 use crate::entries::read_all;
 use crate::failure::{Failure, Flaw};
@@ -92,7 +86,7 @@ fn verify<P: Outside, R: BufRead, W: Write>(
     let mut rng = generator(outside)?;
     let password = password(alloc, input)?;
     let accepted = log_in(outside, access, name, &mut rng, password.as_slice())?;
-    write_accepted(output, accepted)
+    say(output, accepted.as_str())
 }
 
 // Writes what a file has, a line for each name, up to the first that breaks it.

@@ -1,9 +1,7 @@
 //! Changes of the text of one name in a file.
 
 ghost use Rattle.std.specs.Prelude.{◌≡◌, ◌∷◌, ◌++◌, [], ℕ, List, Option};
-ghost use Rattle.argon2_policy.specs.Policy.{policy_value};
-ghost use Rattle.argon2_store.specs.AccountFile.{Serves};
-ghost use Rattle.argon2_passwd.specs.Answers.{Ends, IsApplied, IsServed, breaks_lines, edit_of};
+ghost use Rattle.argon2_passwd.specs.Answers.{Ends, IsApplied, IsServed, Serves, edit_of, policy_value};
 
 use super::accounts::{Access, look, open};
 use super::{generator, new_text};
@@ -45,7 +43,9 @@ pub(super) fn edit<P: Outside, R: BufRead>(
         (R.remaining input.old) output output (P.closed outside.new) }
 {
     match edit {
-        Edit::Register if breaks_lines(name) => Err(Failure::Name),
+        Edit::Register if View::Texts.breaks_line(name.as_bytes()) || has_control(name) => {
+            Err(Failure::Name)
+        }
         Edit::Register => {
             let text = new_text(alloc, outside, access.policy, input)?;
             call(outside, access, name, &Step::Add(text))
@@ -59,13 +59,6 @@ pub(super) fn edit<P: Outside, R: BufRead>(
         Edit::Lock => call(outside, access, name, &Step::Lock),
         Edit::Unlock => call(outside, access, name, &Step::Unlock),
     }
-}
-
-// Whether the name of a new text would break its line in an export, or has a control character.
-fn breaks_lines(name: &str) -> bool
-    ensures { result ≡ breaks_lines name.now }
-{
-    View::Texts.breaks_line(name.as_bytes()) || has_control(name)
 }
 
 /// Opens the file for one call, and closes it.

@@ -1,15 +1,7 @@
 //! An import that passes over lines.
 
 ghost use Rattle.std.specs.Prelude.{◌≡◌, [], ℕ, List, None, Err, Ok, Option, Some, false, IfErr, IfOk, MatchResult, OnOk, map};
-ghost use Rattle.argon2_policy.specs.Policy.{policy_value};
-ghost use Rattle.argon2_rows.specs.Names.{Texts, entry_of};
-ghost use Rattle.argon2_rows.specs.Table.{IsHonest};
-ghost use Rattle.argon2_store.specs.AccountFile.{HasNames, Serves, database_of};
-ghost use Rattle.argon2_store.specs.Edits.{additions};
-ghost use Rattle.argon2_store.specs.Errors.{is_refusal};
-ghost use Rattle.argon2_passwd.specs.Answers.{AddsOthers, IsServed, Looks};
-ghost use Rattle.argon2_passwd.specs.Lines.{entry_or_flaw, unless_known};
-ghost use Rattle.argon2_passwd.specs.Failures.{status_of};
+ghost use Rattle.argon2_passwd.specs.Answers.{AddsOthers, HasNames, IsHonest, IsServed, Looks, Serves, Texts, additions, database_of, entry_of, entry_or_flaw, is_refusal, policy_value, status_of, unless_known};
 
 use super::accounts::{Access, open};
 use crate::command::{Action, Task};

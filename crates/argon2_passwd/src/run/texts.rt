@@ -1,13 +1,7 @@
 //! Makes texts of passwords, and checks passwords by texts. No file is opened.
 
 ghost use Rattle.std.specs.Prelude.{◌≡◌, Ok, Some, IfErr, IfOk, string_bytes};
-ghost use Rattle.argon2.specs.TextHashing.{IsFresh};
-ghost use Rattle.rand_core.specs.Stream.{fill_bytes};
-ghost use Rattle.argon2_policy.specs.Policy.{Denial, LogsIn, policy_value};
-ghost use Rattle.argon2_passwd.specs.Answers.{IsDenied, IsShut, SaysHash, login_text};
-ghost use Rattle.argon2_passwd.specs.Failures.{status_of};
-ghost use Rattle.argon2_base.specs.PhcFields.{phc_of};
-ghost use Rattle.argon2_base.specs.PhcText.{Phc};
+ghost use Rattle.argon2_passwd.specs.Answers.{Denial, IsDenied, IsFresh, IsShut, LogsIn, Phc, SaysHash, fill_bytes, login_text, phc_of, policy_value, status_of};
 
 use crate::failure::Failure;
 use argon2::PasswordHash;

@@ -1,5 +1,4 @@
-use Rattle.std.proofs.Common.{ap}
-use Rattle.argon2_passwd.specs.Salts.{next_salt}
+use Rattle.argon2_passwd.proofs.Common.{ap, next_salt}
 use Rattle.argon2_passwd.proofs.run.generator.Goals as goal
 
 pub returns-clause-salt : goal.returns-clause-salt

@@ -1,6 +1,5 @@
-use Rattle.argon2_passwd.proofs.Common.{[], AccountFile, database_of, Err, err_from_is_err_and, FileError, Ghosts, HasNames, IfOk, inl, inr, IsHonest, IsLooked, IsOpened, List, None, Ok, opened_for}
+use Rattle.argon2_passwd.proofs.Common.{[], AccountFile, database_of, Err, err_from_is_err_and, FileError, get, Ghosts, HasNames, IfOk, inl, inr, IsHonest, IsLooked, IsOpened, List, None, Ok, opened_for}
 use Rattle.argon2_passwd.proofs.Common.{Option, option_map, Reads, Result, Some, String, string_bytes, Texts, ℕ, ◌≡◌}
-use Rattle.std.specs.FinMap.{get}
 use Rattle.argon2_passwd.proofs.run.accounts.look.Goals as goal
 
 module _ {S Y : Type 0} {g : Ghosts S} {Has : List ℕ → Texts → Type 0} {path : List ℕ} {Next : S → Type 0} (name : List ℕ)

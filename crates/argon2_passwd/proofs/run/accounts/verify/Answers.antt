@@ -7,13 +7,14 @@ returns-in_err-accepted g c =
     rw (err_is _ _ c.from_residual-in_err-accepted.ensures.1)
     (elim c.in_err-accepted.ensures [
       | inl login ↦ inl (Err _, (refl, keeps_same _), (_, found, login))
-      | inr (shut, three) ↦ inr (shut, ((λ isnt. absurd (isnt three)), inr (keeps_same _)))
+      | inr (shut, three) ↦ inr (shut, inr (keeps_same _, (λ isnt. absurd (isnt three))))
     ])
 
 pub returns : goal.returns
 returns g c =
     let found = found_as (g.R.Read.remaining c.args.input.now) c.as_slice.ensures.value c.in_ok-password.ensures.found in
+    let said = rw c.as_str.ensures at c.say.ensures in
     elim c.in_ok-accepted.ensures [
-      | inl login ↦ inl (Ok c.in_ok-accepted.accepted, c.write_accepted.ensures, (_, found, login))
+      | inl login ↦ inl (Ok c.in_ok-accepted.accepted, said, (_, found, login))
       | inr (shut, never) ↦ absurd never
     ]
