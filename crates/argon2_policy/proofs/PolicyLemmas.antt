@@ -3,25 +3,19 @@ use Rattle.std.proofs.Common.{◌≡◌, ℕ, ◌*◌, ◌≤◌, Bool, if◌the
 use Rattle.std.proofs.lemmas.Bool.Decides.{nat_tests}
 use Rattle.std.specs.Prelude.{◌≢◌, IsSomeAnd, ok_or}
 use Rattle.argon2_base.specs.Error.{Fault, bad_algorithm, bad_password, bad_version, fault_of}
-use Rattle.argon2_base.specs.PhcFields.{phc_of}
-use Rattle.argon2_base.specs.PhcText.{Phc}
 use Rattle.argon2_base.specs.declared.phc.hash.PasswordHash.{PasswordHash}
-use Rattle.argon2_base.specs.declared.error.password_hash.Error.{Error}
-use Rattle.argon2_base.specs.declared.error.password_hash.Error.TheVariants.{OutOfMemory, PasswordInvalid}
 use Rattle.argon2.specs.declared.algorithm.Algorithm.{Algorithm}
-use Rattle.argon2.specs.declared.bound.Bound.{Bound}
-use Rattle.argon2.specs.declared.bound.BoundError.{BoundError}
-use Rattle.argon2.specs.declared.bound.BoundError.TheVariants.{Refused, TooExpensive}
 use Rattle.argon2.specs.declared.version.Version.{Version}
-use Rattle.argon2.specs.Bound.{AsksWithin, HashRefusal, IsWithin}
-use Rattle.argon2.specs.TextHashing.{IsFresh, IsHashAnswer, Target}
+use Rattle.argon2.specs.TextHashing.{IsHashAnswer}
 use Rattle.argon2.specs.Rfc9106.{segment_length_for}
-use Rattle.argon2.specs.Settings.{Parameters, Settings}
-use Rattle.argon2.specs.StoredTexts.{AcceptsBy, IsVerifyAnswer, Stored, is_tag, result_and_then, shown_settings, stored_of}
+use Rattle.argon2.specs.Settings.{Parameters}
+use Rattle.argon2.specs.StoredTexts.{Stored, is_tag, result_and_then, stored_of}
 use Rattle.argon2.proofs.login_lemmas.LoginLemmas.{hash_made}
 use Rattle.argon2.proofs.password_hash_lemmas.MadeValues.{made_accepts, made_shows}
 use Rattle.argon2.proofs.password_hash_lemmas.Verified.{exact}
-pub use Rattle.argon2_policy.specs.Policy.{Admits, Denial, IsPolicy, Policy, SecretsRefusal, policy_value}
+use Rattle.argon2_policy.specs.Policy.{AcceptsBy, AsksWithin, Bound, BoundError, Error, HashRefusal, IsFresh, IsVerifyAnswer, IsWithin, OutOfMemory, PasswordInvalid, Phc, Refused, Settings, Target, TooExpensive}
+use Rattle.argon2_policy.specs.Policy.{phc_of, shown_settings}
+pub use Rattle.argon2_policy.specs.Policy.{Admits, Denial, IsPolicy, Policy, SecretsRefusal, fill_bytes, policy_value}
 
 -- ---- the bound
 

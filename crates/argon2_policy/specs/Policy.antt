@@ -1,20 +1,23 @@
--- What callers see of a policy, and what its calls make of what a text says.
+-- What callers see of a policy, and what its calls make of what a text says. The words that the contracts share are passed on.
 use Rattle.std.specs.Prelude.{◌≡◌, ◌≢◌, ◌⊎◌, ℕ, ◌≤◌, ◌<◌, List, Option, None, IsErrAnd, IsSomeAnd, Result, Ok, Err}
 use Rattle.std.specs.Option.{option_map}
-use Rattle.rand_core.specs.Stream.{Stream, fill_bytes}
-use Rattle.argon2_base.specs.PhcText.{Phc}
-use Rattle.argon2_base.specs.declared.error.password_hash.Error.{Error}
-use Rattle.argon2_base.specs.declared.error.password_hash.Error.TheVariants.{OutputSize, PasswordInvalid}
+pub use Rattle.rand_core.specs.Stream.{Stream, fill_bytes}
+pub use Rattle.argon2_base.specs.PhcText.{Phc}
+pub use Rattle.argon2_base.specs.declared.error.password_hash.Error.{Error}
+pub use Rattle.argon2_base.specs.PhcFields.{phc_of}
+pub use Rattle.argon2_base.specs.declared.error.password_hash.Error.TheVariants.{OutOfMemory, OutputSize, PasswordInvalid}
 use Rattle.argon2.specs.Argon2.{secret_of}
-use Rattle.argon2.specs.Bound.{AsksWithin, HashRefusal, IsWithin}
-use Rattle.argon2.specs.TextHashing.{HashingRefusal, IsFresh, IsTarget, Target, tag_length, target_of}
-use Rattle.argon2.specs.Settings.{Settings}
-use Rattle.argon2.specs.StoredTexts.{AcceptsBy, IsVerifyAnswer, shown_settings}
-use Rattle.argon2.specs.declared.bound.Bound.{Bound}
-use Rattle.argon2.specs.declared.bound.BoundError.{BoundError}
-use Rattle.argon2.specs.declared.bound.BoundError.TheVariants.{Refused, TooExpensive}
+pub use Rattle.argon2.specs.Bound.{AsksWithin, HashRefusal, IsWithin}
+pub use Rattle.argon2.specs.TextHashing.{HashingRefusal, IsFresh, IsTarget, Target, tag_length, target_of}
+pub use Rattle.argon2.specs.Refusals.{max_len}
+pub use Rattle.argon2.specs.Settings.{Settings}
+pub use Rattle.argon2.specs.NamedTexts.{accepted_by, stream_after, value_after}
+pub use Rattle.argon2.specs.StoredTexts.{AcceptsBy, IsVerifyAnswer, settings_value, shown_settings}
+pub use Rattle.argon2.specs.declared.bound.Bound.{Bound}
+pub use Rattle.argon2.specs.declared.bound.BoundError.{BoundError}
+pub use Rattle.argon2.specs.declared.bound.BoundError.TheVariants.{Refused, TooExpensive}
 use Rattle.argon2.specs.declared.login.answers.Accepted.{Accepted}
-use Rattle.argon2.specs.declared.login.answers.Accepted.TheVariants.{Current, Kept, Rehashed}
+pub use Rattle.argon2.specs.declared.login.answers.Accepted.TheVariants.{Current, Kept, Rehashed}
 use Rattle.argon2_policy.specs.declared.policy.Policy.{Policy as OwnPolicy}
 
 -- what passwords are hashed and verified under: a target, a secret that was in use before, if one is given, and a bound

@@ -29,17 +29,9 @@ pub struct Policy<'key> {
 
 impl<'key> Policy<'key> {
     ghost use Rattle.std.specs.Prelude.{◌≡◌, ◌≢◌, ◌⊎◌, ◌↔◌, ◌≤◌, ◌<◌, Some, Ok, true, false, IsSome, IsTrue, IfOk, IfErr, OnOk, MatchResult, length};
-    ghost use Rattle.rand_core.specs.Stream.{fill_bytes};
-    ghost use Rattle.argon2_base.specs.PhcFields.{phc_of};
     ghost use Rattle.argon2_base.specs.declared.error.Error.TheVariants.{SecretTooLong};
-    ghost use Rattle.argon2_base.specs.declared.error.password_hash.Error.TheVariants.{OutOfMemory};
-    ghost use Rattle.argon2.specs.TextHashing.{IsFresh};
-    ghost use Rattle.argon2.specs.NamedTexts.{accepted_by, stream_after, value_after};
-    ghost use Rattle.argon2.specs.Refusals.{max_len};
-    ghost use Rattle.argon2.specs.StoredTexts.{AcceptsBy, settings_value};
-    ghost use Rattle.argon2.specs.declared.bound.BoundError.TheVariants.{Refused};
-    ghost use Rattle.argon2.specs.declared.login.answers.Accepted.TheVariants.{Kept, Rehashed};
-    ghost use Rattle.argon2_policy.specs.Policy.{AcceptsByOld, Admits, AreNoWeaker, ChangeRefusal, Denial, DrawsIfAdmitted, IsNewPolicy, IsNoWeaker, LogsIn, MakingRefusal, policy_value};
+    ghost use Rattle.argon2_policy.specs.Policy.{AcceptsBy, AcceptsByOld, Admits, AreNoWeaker, ChangeRefusal, Denial, DrawsIfAdmitted, IsFresh, IsNewPolicy, IsNoWeaker, Kept, LogsIn, MakingRefusal, OutOfMemory};
+    ghost use Rattle.argon2_policy.specs.Policy.{Refused, Rehashed, accepted_by, fill_bytes, max_len, phc_of, policy_value, settings_value, stream_after, value_after};
 
     /// A policy of a target and a bound, without an old secret. Its calls allocate from `alloc`; this one
     /// allocates nothing.

@@ -1,5 +1,4 @@
-use Rattle.rand_core.specs.Stream.{fill_bytes}
-use Rattle.argon2_policy.proofs.PolicyLemmas.{fresh_admits, is_fresh, policy_value}
+use Rattle.argon2_policy.proofs.PolicyLemmas.{fill_bytes, fresh_admits, is_fresh, policy_value}
 use Rattle.argon2_policy.proofs.policy.Policy.hash_password.Goals as goal
 
 pub returns-clause-made : goal.returns-clause-made
