@@ -1,6 +1,6 @@
 -- What the proofs of this crate share: the words that they use, and lemmas on passwords, lines, failures and opened files.
 pub use Rattle.std.proofs.Common.{[], add-one, ap, append-nil, append_assoc, arith, Bool, Bor, drop, drop-cons, Err, false, get_or, inl, inr, length, List, lit<, map, min, None, Ok, Option, refl}
-pub use Rattle.std.proofs.Common.{Result, rules, Some, subst, suc, sym, take, true, ℕ, ⊎_elim, ◌++◌, ◌+◌, ◌<◌, ◌==◌, ◌||◌, ◌∙◌, ◌∷◌, ◌≡◌, ◌≢◌, ◌⊎◌}
+pub use Rattle.std.proofs.Common.{Result, rules, Some, subst, suc, sym, take, true, ℕ, ⊎_elim, ◌++◌, ◌+◌, ◌<◌, ◌==◌, ◌||◌, ◌∙◌, ◌∷◌, ◌≡◌}
 pub use Rattle.std.proofs.lemmas.Option.{IfSome_then}
 pub use Rattle.std.proofs.lemmas.Grind.{common_steps}
 pub use Rattle.std.proofs.lemmas.Result.{err_from_is_err_and}
@@ -8,7 +8,7 @@ pub use Rattle.std.specs.Io.BufRead.{drop_through, DropsThrough, strip_last}
 pub use Rattle.std.specs.Io.KnownBytes.{WriteAppends}
 pub use Rattle.std.specs.List.{after_first, AllZip, before_first, IsFirstMatchOrLen, list_any, slice_get, slice_split}
 pub use Rattle.std.specs.Option.{is_some, option_copied, unwrap_or}
-pub use Rattle.std.specs.Prelude.{All, IfOk, IfSome, IsTrue, MatchOption, String, string_bytes}
+pub use Rattle.std.specs.Prelude.{All, IfOk, IfSome, String, string_bytes}
 pub use Rattle.std.specs.Str.{bytes_eq, is_utf8}
 pub use Rattle.std.specs.Str.Lines.{lines, lines_of_parts, strip_carriage_return}
 pub use Rattle.argon2_rows.proofs.TableLemmas.{err_is, quiet_then}

@@ -1,16 +1,7 @@
-use Rattle.argon2_passwd.proofs.Common.{[], add-one, ap, drop, entry_or_flaw, err_from_is_err_and, get_or, length, Line, List, map, memory_is, no_refusal, None, Some, suc, sym, unless_known, ℕ, ◌++◌}
-use Rattle.argon2_passwd.proofs.Common.{◌<◌, ◌∙◌, ◌∷◌, ◌≡◌}
-use Rattle.argon2_passwd.proofs.LineLemmas.{Own, map-push, next_line}
+use Rattle.argon2_passwd.proofs.Common.{add-one, err_from_is_err_and, map, memory_is, no_refusal, None, refl, Some, unless_known}
+use Rattle.argon2_passwd.proofs.LineLemmas.{one_more}
 use Rattle.argon2_passwd.proofs.Looks.{looks_then, names_stay, was_honest}
 use Rattle.argon2_passwd.proofs.run.others.new_lines.Goals as goal
-
--- the next of the lines
-step : (f : Line → Line) (ls found : List Own) (k : ℕ) (x y : Own) (all : List Line) → k < length ls → x ≡ get_or ls k x
-    → entry_or_flaw y ≡ f (entry_or_flaw x) → map entry_or_flaw found ++ map f (map entry_or_flaw (drop k ls)) ≡ all
-    → map entry_or_flaw (found ++ y ∷ []) ++ map f (map entry_or_flaw (drop (suc k) ls)) ≡ all
-step f ls found k x y all within is said sofar =
-    sym (map-push entry_or_flaw found y _) ∙ ap (λ l. map entry_or_flaw found ++ l ∷ map f (map entry_or_flaw (drop (suc k) ls))) said
-    ∙ (rw (next_line ls k x within is) at sofar)
 
 pub returns-in_err-unless_known-clause-fails : goal.returns-in_err-unless_known-clause-fails
 returns-in_err-unless_known-clause-fails g c =
@@ -30,7 +21,9 @@ loop-line-preserved g c =
       looks_then None _ _ _ looks looked,
       λ names has honest.
           let had = names_stay None _ _ looks names has in
-          rw (c.in_ok-push.ensures.items, add-one) (step (unless_known names) c.args.lines.now c.loop-line.found.items c.loop-line.line-index
-          c.line-item.result c.in_ok-unless_known.field-0 _ c.loop-line-test.true c.line-item.is
-          (c.in_ok-unless_known.ensures.new names had honest) (made names has (was_honest None _ _ looked names had honest))),
+          let f = unless_known names in
+          rw (c.in_ok-push.ensures.items, add-one)
+          (one_more (map f) (map f) f c.args.lines.now c.loop-line.found.items c.loop-line.line-index c.line-item.result
+          c.in_ok-unless_known.field-0 _ (λ rest. refl) c.loop-line-test.true c.line-item.is (c.in_ok-unless_known.ensures.new names had honest)
+          (made names has (was_honest None _ _ looked names had honest))),
     )
