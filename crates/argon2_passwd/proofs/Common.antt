@@ -15,9 +15,10 @@ pub use Rattle.argon2_rows.proofs.TableLemmas.{err_is, quiet_then}
 pub use Rattle.argon2_rows.specs.Locks.{behind_lock, without_lock}
 pub use Rattle.argon2_store.specs.AccountFile.{HasCause, HasFailedBy, IsClosed, Reads}
 pub use Rattle.argon2_store.specs.declared.error.FileError.TheVariants.{Damaged}
-pub use Rattle.argon2_passwd.specs.Answers.{AccountFile, AddsEntries, additions, answer_without_text, Appends, AreSaid, behind, Bor, database_of, entries_in, entry_of, entry_or_flaw, FileError, first_of_each}
-pub use Rattle.argon2_passwd.specs.Answers.{Flaw, flaws_from, get, Ghosts, HasNames, is_locked, IsHonest, IsLooked, IsOfFirst, IsOpened, IsOpenFor, IsUnfound, Keeps, Line, Looks, NameTaken, next_salt, OfPassword}
-pub use Rattle.argon2_passwd.specs.Answers.{option_map, password_of, phc_of, scheme_of, Serves, Stays, StoredText, Texts, unless_known}
+pub use Rattle.argon2_passwd.specs.Answers.{AccountFile, AddsEntries, additions, answer_without_text, Appends, AreSaid, behind, Bor, database_of, entries_in, entry_of, entry_or_flaw}
+pub use Rattle.argon2_passwd.specs.Answers.{FileError, first_of_each, Flaw, flaws_from, get, Ghosts, HasNames, is_locked, IsHonest, IsLooked, IsOfFirst, IsOpened, IsOpenFor, IsUnfound}
+pub use Rattle.argon2_passwd.specs.Answers.{Keeps, Line, Looks, NameTaken, next_salt, OfPassword, option_map, password_of, phc_of, scheme_of, Serves, Stays, StoredText, Texts}
+pub use Rattle.argon2_passwd.specs.Answers.{unless_known}
 pub use Rattle.argon2_passwd.specs.Lines.{has_name, IsEntryOrFlaw, IsTaken, line_has_name, new_line, parts_now, unmarked, with_name}
 pub use Rattle.argon2_passwd.specs.Passwords.{line_of}
 use Rattle.argon2_passwd.specs.Answers.{BoundError, Failure, is_refusal, IsDenied, IsMemory, IsOfFile, Phc, status_of}
