@@ -7,10 +7,10 @@ use crate::account_file::AccountFile;
 use sqlite_disk::{Disk, Files};
 use sqlite_store::FileStore;
 
-/// If a crash comes now, or the file is dropped, the files are left with the table of some names, and an open that succeeds finds the names as all calls on the file
-/// left them. One change may be there too: that of the last call that did not find the file closed, if it
-/// had an error of the file or the crash cut it off. It finds the same after any number of opens that
-/// fail, each as [`failed_open`] says. A crash during an open counts as one that fails there.
+/// If a crash comes now, or the file is dropped, the files are left with the table of some names, and an open that
+/// succeeds finds the names as all calls on the file left them. One change may be there too: that of the last call that
+/// did not find the file closed, if it had an error of the file or the crash cut it off. It finds the same after any
+/// number of opens that fail, each as [`failed_open`] says. A crash during an open counts as one that fails there.
 pub fn next_run<D: Disk>(file: &AccountFile<FileStore<D>>)
     ensures { EndsRun file.now }
 {}
