@@ -134,7 +134,7 @@ fn number_at(head: &[u8; 32], at: usize) -> u32
 fn is_signed(head: &[u8; 32]) -> bool
     ensures { IsTrue result ↔ IsSigned head.now }
 {
-    if head[..3] != [MAGIC, 0x7f, 0x06] || head[3] / 2 != 0x41 {
+    if head[..3] != [MAGIC, 0x7f, 0x06] || !matches!(head[3], 0x82 | 0x83) {
         return false;
     }
     let sum = checksum_of(head[3] == 0x83, (0, 0), &head[..24]);
