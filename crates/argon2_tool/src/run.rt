@@ -98,7 +98,15 @@ pub fn fail<E: Write>(errors: &mut E, failure: Failure) -> u8
     ensures reported { IsReported failure (E.contents errors.old) (E.contents errors.new) }
 {
     let (start, name, end) = failure.text();
-    let _ = write_line(errors, &[b"argon2: ", start.as_bytes(), name.as_bytes(), end.as_bytes()]);
+    let _ = write_line(
+        errors,
+        &[
+            b"argon2: ",
+            start.as_bytes(),
+            name.as_bytes(),
+            end.as_bytes(),
+        ],
+    );
     1
 }
 
