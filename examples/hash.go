@@ -28,11 +28,15 @@ func hash(password []byte) (string, error) {
 	return C.GoString((*C.char)(unsafe.Pointer(&text[0]))), nil
 }
 
-// accepts tells whether a stored text accepts a password that is not empty.
-func accepts(text string, password []byte) bool {
+// accepts tells whether a stored text accepts a password that is not empty, or why it can't be verified.
+func accepts(text string, password []byte) (bool, error) {
 	encoded := C.CString(text)
 	defer C.free(unsafe.Pointer(encoded))
-	return C.argon2id_verify(encoded, unsafe.Pointer(&password[0]), C.size_t(len(password))) == C.ARGON2_OK
+	code := C.argon2id_verify(encoded, unsafe.Pointer(&password[0]), C.size_t(len(password)))
+	if code != C.ARGON2_OK && code != C.ARGON2_VERIFY_MISMATCH {
+		return false, errors.New(C.GoString(C.argon2_error_message(code)))
+	}
+	return code == C.ARGON2_OK, nil
 }
 
 func main() {
@@ -41,5 +45,13 @@ func main() {
 		panic(err)
 	}
 	fmt.Println(text)
-	fmt.Println(accepts(text, []byte("correct horse")), accepts(text, []byte("wrong horse")))
+	right, err := accepts(text, []byte("correct horse"))
+	if err != nil {
+		panic(err)
+	}
+	wrong, err := accepts(text, []byte("wrong horse"))
+	if err != nil {
+		panic(err)
+	}
+	fmt.Println(right, wrong)
 }

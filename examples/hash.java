@@ -8,6 +8,7 @@ class Hash {
     /** The C library. A size_t is a long on Linux. */
     interface Argon2 extends Library {
         Argon2 LIBRARY = Native.load("argon2", Argon2.class);
+        int VERIFY_MISMATCH = -35;
 
         int argon2id_hash_encoded(int passes, int memory, int lanes, byte[] password, long passwordLength,
                 byte[] salt, long saltLength, long hashLength, byte[] text, long textSize);
@@ -30,7 +31,11 @@ class Hash {
     }
 
     static boolean accepts(String text, byte[] password) {
-        return Argon2.LIBRARY.argon2id_verify(text, password, password.length) == 0;
+        int code = Argon2.LIBRARY.argon2id_verify(text, password, password.length);
+        if (code != 0 && code != Argon2.VERIFY_MISMATCH) {
+            throw new IllegalArgumentException(Argon2.LIBRARY.argon2_error_message(code));
+        }
+        return code == 0;
     }
 
     public static void main(String[] args) {

@@ -17,9 +17,13 @@ module Argon2
     text.unpack1("Z*")
   end
 
+  VERIFY_MISMATCH = -35
+
   # Whether a stored text accepts a password.
   def self.accepts?(text, password)
-    argon2id_verify(text, password, password.bytesize).zero?
+    code = argon2id_verify(text, password, password.bytesize)
+    raise argon2_error_message(code).to_s unless [0, VERIFY_MISMATCH].include?(code)
+    code.zero?
   end
 end
 

@@ -1,13 +1,16 @@
-use argon2::password_hash::{self, PasswordHasher, PasswordVerifier};
+use argon2::password_hash::{Error, PasswordHasher, PasswordVerifier, Result};
 use argon2::{Argon2, PasswordHash};
 
-fn main() -> password_hash::Result<()> {
+fn main() -> Result<()> {
     let argon2 = Argon2::default();
     let text = argon2.hash_password(b"correct horse")?.to_string();
     println!("{text}");
 
     let stored = PasswordHash::new(&text)?;
-    let accepts = |password: &[u8]| argon2.verify_password(password, &stored).is_ok();
-    println!("{} {}", accepts(b"correct horse"), accepts(b"wrong horse"));
+    let accepts = |password: &[u8]| match argon2.verify_password(password, &stored) {
+        Err(Error::PasswordInvalid) => Ok(false),
+        answer => answer.map(|()| true),
+    };
+    println!("{} {}", accepts(b"correct horse")?, accepts(b"wrong horse")?);
     Ok(())
 }
