@@ -2,16 +2,17 @@
 
 ghost use Rattle.std.specs.Prelude.{◌≤◌, length};
 
+use crate::answer::Answer;
+use crate::call::Call;
 use crate::plain;
 use argon2::blake2b::Blake2b;
 use argon2::blake2b_long::blake2b_long;
 use argon2::block::{Words, mix_words};
 use argon2::{Block, Work};
-use argon2_lines::{Answer, Call};
 use std::convert::AsSlice;
 use std::slice;
 
-pub(crate) fn is_made(call: &Call<'_, '_>, answer: &mut Answer) -> bool {
+pub(crate) fn is_made(call: &Call<'_, '_>, answer: &Answer) -> bool {
     match call.name {
         "Blake2b" => digest(call, answer),
         "blake2b_long" => long_digest(call, answer),
@@ -23,12 +24,13 @@ pub(crate) fn is_made(call: &Call<'_, '_>, answer: &mut Answer) -> bool {
             answer.say("mixes");
             answer.say(work.mixes());
         }
-        // `BLOCK BLOCK`: the digests of their exclusive or, made in a new block and in the first.
+        // `BLOCK BLOCK`: the digests of their exclusive or, made in a copy of the first and in a new block.
         "Block::bitxor" => {
-            let (mut x, y) = (block(call, 1), block(call, 2));
+            let (x, y) = (block(call, 1), block(call, 2));
+            let mut copy = x.clone().unwrap_or_default();
+            copy ^= &y;
+            say(answer, &copy);
             say(answer, &(x ^ &y));
-            x ^= &y;
-            say(answer, &x);
         }
         // `BLOCK`: the digest of the block then.
         "Block::zeroize" => {
@@ -47,7 +49,7 @@ pub(crate) fn is_made(call: &Call<'_, '_>, answer: &mut Answer) -> bool {
 }
 
 // `LENGTH MESSAGE CUT`: the hash of a message in three pieces: so many bytes, none, and the others.
-fn long_digest(call: &Call<'_, '_>, answer: &mut Answer) {
+fn long_digest(call: &Call<'_, '_>, answer: &Answer) {
     let (message, cut) = (call.bytes(2), call.count(3) as usize);
     let mut out = answer.ones(call.count(1));
     let (first, second) = message.split_at(cut.min(message.len()));
@@ -56,7 +58,7 @@ fn long_digest(call: &Call<'_, '_>, answer: &mut Answer) {
 }
 
 // `LENGTH MESSAGE PIECE`: the digest of a message whose pieces have so many bytes, but for the last.
-fn digest(call: &Call<'_, '_>, answer: &mut Answer) {
+fn digest(call: &Call<'_, '_>, answer: &Answer) {
     let (mut buffer, len) = ([0; 64], call.count(1) as usize);
     if len == 0 || len > 64 {
         return call.refuse();
@@ -112,7 +114,7 @@ fn block(call: &Call<'_, '_>, place: usize) -> Block {
     block
 }
 
-fn say(answer: &mut Answer, block: &Block) {
+fn say(answer: &Answer, block: &Block) {
     answer.hex(&digest_of(slice::from_ref(block)));
 }
 

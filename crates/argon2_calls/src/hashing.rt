@@ -11,14 +11,15 @@ ghost use Rattle.argon2.specs.Argon2.{context_of};
 ghost use Rattle.argon2.specs.Rfc9106.{block_count, segment_length};
 ghost use Rattle.argon2.specs.Segments.{slice_length};
 
+use crate::answer::Answer;
 use crate::blocks::{alike_pairs, digest_of, digest_of_places};
+use crate::call::Call;
 use crate::inputs;
 use argon2::block::Words;
 use argon2::{Argon2, Block, Error, Kdf, MAX_AD_LEN, MAX_PWD_LEN, MAX_SALT_LEN, Segment, laws};
-use argon2_lines::{Answer, Call};
 use std::convert::AsSlice;
 
-pub(crate) fn is_made(call: &Call<'_, '_>, answer: &mut Answer, memory: &mut Vec<Block>) -> bool {
+pub(crate) fn is_made(call: &Call<'_, '_>, answer: &Answer, memory: &mut Vec<Block>) -> bool {
     match call.name {
         "derive_key"
         | "hash_password_into"
@@ -52,7 +53,7 @@ pub(crate) fn is_made(call: &Call<'_, '_>, answer: &mut Answer, memory: &mut Vec
 }
 
 // `.. DATA`: under other associated data; `.. DATA COUNT`: the same on so many blocks of ones, as their words.
-fn hashed(call: &Call<'_, '_>, answer: &mut Answer) {
+fn hashed(call: &Call<'_, '_>, answer: &Answer) {
     let (argon2, password, salt) = inputs(call);
     let (alloc, mut out) = (answer.alloc, answer.ones(call.count(4)));
     let tag = out.as_mut_slice();
@@ -70,7 +71,7 @@ fn hashed(call: &Call<'_, '_>, answer: &mut Answer) {
     answer.written(done, &out);
 }
 
-fn on_words(call: &Call<'_, '_>, answer: &mut Answer, tag: &mut [u8]) -> Result<(), Error> {
+fn on_words(call: &Call<'_, '_>, answer: &Answer, tag: &mut [u8]) -> Result<(), Error> {
     let (argon2, password, salt) = inputs(call);
     let (data, count) = (call.bytes(5), call.count(6) as usize);
     if data.len() > MAX_AD_LEN {
@@ -84,7 +85,7 @@ fn on_words(call: &Call<'_, '_>, answer: &mut Answer, tag: &mut [u8]) -> Result<
 
 // `memory COUNT CONTENT`: the memory that the next calls get, of zeros, of ones, or of blocks with a bit set: each has its next
 // place, and those behind have none.
-fn lent(call: &Call<'_, '_>, answer: &mut Answer) -> Vec<Block> {
+fn lent(call: &Call<'_, '_>, answer: &Answer) -> Vec<Block> {
     let (count, content) = (call.count(1) as usize, call.word(2));
     let mut memory = answer.granted(Vec::from_elem(answer.alloc, Block::new(), count));
     let mut bit: usize = 0;
@@ -113,7 +114,7 @@ fn digests(argon2: &Argon2<'_>, memory: &[Block]) -> ([u8; 8], [u8; 8]) {
 
 // Shows whether a call was done, its output, and what it made of the memory, if that had these digests before.
 fn show(
-    answer: &mut Answer,
+    answer: &Answer,
     done: Result<(), Error>,
     argon2: &Argon2<'_>,
     out: &[u8],
@@ -133,7 +134,7 @@ fn show(
 }
 
 // A call that leaves nothing but the output and the memory.
-fn filled(call: &Call<'_, '_>, answer: &mut Answer, memory: &mut [Block]) {
+fn filled(call: &Call<'_, '_>, answer: &Answer, memory: &mut [Block]) {
     let (argon2, password, salt) = inputs(call);
     let (old, mut out) = (digests(argon2, memory), answer.ones(call.count(4)));
     let tag = out.as_mut_slice();
@@ -156,14 +157,13 @@ fn place_count(argon2: &Argon2<'_>) -> Option<usize>
 }
 
 // `hash_password_into_watched .. PLACE..`, with the positions at these places.
-fn watched(call: &Call<'_, '_>, answer: &mut Answer, memory: &mut [Block]) {
+fn watched(call: &Call<'_, '_>, answer: &Answer, memory: &mut [Block]) {
     let (argon2, password, salt) = inputs(call);
     let Some(count) = place_count(argon2) else {
         return call.refuse();
     };
     let Ok(mut positions) = Vec::from_elem(answer.alloc, u32::MAX, count) else {
-        answer.is_refused = true;
-        return;
+        return answer.refuse();
     };
     let (old, mut out) = (digests(argon2, memory), answer.ones(call.count(4)));
     let (tag, places) = (out.as_mut_slice(), positions.as_mut_slice());
@@ -180,7 +180,7 @@ fn watched(call: &Call<'_, '_>, answer: &mut Answer, memory: &mut [Block]) {
 }
 
 // The digest of all positions, and those at the places that the values from a place on say.
-fn show_places(call: &Call<'_, '_>, place: usize, answer: &mut Answer, positions: &[u32]) {
+fn show_places(call: &Call<'_, '_>, place: usize, answer: &Answer, positions: &[u32]) {
     answer.say("positions");
     answer.hex(&digest_of_places(positions));
     for place in place..call.len() {
@@ -193,7 +193,7 @@ fn show_places(call: &Call<'_, '_>, place: usize, answer: &mut Answer, positions
 
 // `step_block CONTEXT PASSWORD SALT LENGTH TURNS TURNS TURNS TURNS`: a filling by single steps. The words have the lanes'
 // turns in slices 0 to 3 of each pass, a digit for a step. In slice 0 of pass 0 the first two of each lane are no steps.
-fn stepped(call: &Call<'_, '_>, answer: &mut Answer, memory: &mut [Block]) {
+fn stepped(call: &Call<'_, '_>, answer: &Answer, memory: &mut [Block]) {
     let (argon2, password, salt) = inputs(call);
     let turns = [call.word(5), call.word(6), call.word(7), call.word(8)];
     let count = place_count(argon2).unwrap_or(0);
@@ -282,7 +282,7 @@ fn finish(argon2: &Argon2<'_>, memory: &[Block], out: &mut [u8]) -> bool {
 
 // `fill_segment CONTEXT PASSWORD SALT LENGTH LANES LANES LANES LANES`: a filling by segments, on blocks of ones. The words have
 // the lanes of slices 0 to 3 in the order in which each pass fills them, a digit for a lane. The answer is the tag.
-fn filled_apart(call: &Call<'_, '_>, answer: &mut Answer) {
+fn filled_apart(call: &Call<'_, '_>, answer: &Answer) {
     let (argon2, password, salt) = inputs(call);
     let lanes = [call.word(5), call.word(6), call.word(7), call.word(8)];
     let (count, mut out) = (argon2.params().block_count(), answer.ones(call.count(4)));

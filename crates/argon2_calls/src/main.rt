@@ -1,17 +1,34 @@
-//! Makes the calls on everything but files that the lines of standard input name, and prints each line with its answer.
-//! `argon2_lines` says how lines and values are written.
+//! Makes the calls that the lines of standard input name, and prints each line with its answer. So a test is a line: `stdin`
+//! has the calls, and `stdout` the same lines with the answers that they must have.
+//!
+//! - Empty lines and lines that begin with `#` are printed as they are.
+//! - Any other line is a call: its name and its values, each after one space. It is printed with ` = ` and the answer: a
+//!   value, `Ok`, or an error by its name. The module that makes a call says which values it takes.
+//! - A line that is no call, or has other values, is answered by `?`. If memory is refused to the program, and not to the
+//!   call, the answer is `no memory`, or the program ends.
 #![tactic(auto)]
 
+use answer::Answer;
 use argon2::login::Login;
 use argon2::{Argon2, Block};
-use argon2_lines::{Answer, Call, Contexts, Line, line};
-use std::alloc::Global;
+use argon2_accounts::Accounts;
+use call::Call;
+use context::Contexts;
+use files::{Disks, OnDisk};
+use line::Line;
 use std::io::{self, BufWriter, Read, Write};
 
+mod answer;
 mod blocks;
+mod call;
+mod context;
+mod drawn;
+mod files;
 mod hashing;
+mod line;
 mod plain;
 mod texts;
+mod types;
 mod uses;
 
 fn main(rt: HostRuntime) -> io::Result<()> {
@@ -20,16 +37,33 @@ fn main(rt: HostRuntime) -> io::Result<()> {
     rt.reader().read_to_string(&mut text)?;
     let lines = line::lines_of(alloc, text.as_str())?;
     let mut output = BufWriter::new(alloc, rt.stdout())?;
-    write_all(alloc, &mut output, &lines)
+    write_all::<OnDisk, _>(&rt, &mut output, &lines)
 }
 
-fn write_all<'a, W: Write>(alloc: Global, output: &mut W, lines: &'a [Line<'a>]) -> io::Result<()> {
-    let (mut contexts, mut answer) = (Contexts::new(alloc), Answer::new(alloc));
+// What calls leave for those after them: the memory that is lent, the last login store, and accounts in an open file.
+#[derive(Drop)]
+struct Left<'a, S: Disks> {
+    memory: Vec<Block>,
+    login: Option<Login<'a>>,
+    accounts: Option<Accounts<'a, S>>,
+}
+
+fn write_all<'a, S: Disks, W: Write>(
+    rt: &HostRuntime,
+    output: &mut W,
+    lines: &'a [Line<'a>],
+) -> io::Result<()> {
+    let alloc = rt.alloc();
+    let (mut contexts, answer) = (Contexts::new(alloc), Answer::new(alloc));
     contexts.add(lines)?;
-    let (mut memory, mut login) = (Vec::new(alloc), None);
+    let mut left: Left<'a, S> = Left {
+        memory: Vec::new(alloc),
+        login: None,
+        accounts: None,
+    };
     for line in lines {
         let call = Call::new(line, &contexts);
-        if !is_made(&call, &mut answer, &mut memory, &mut login) {
+        if !is_made(rt, &call, &answer, &mut left) {
             call.refuse();
         }
         answer.write(&call, output)?;
@@ -37,17 +71,18 @@ fn write_all<'a, W: Write>(alloc: Global, output: &mut W, lines: &'a [Line<'a>])
     output.flush()
 }
 
-// Makes a call. Calls leave the memory that is lent, and the last login store, for those after them.
-fn is_made<'a>(
+fn is_made<'a, S: Disks>(
+    rt: &HostRuntime,
     call: &Call<'_, 'a>,
-    answer: &mut Answer,
-    memory: &mut Vec<Block>,
-    login: &mut Option<Login<'a>>,
+    answer: &Answer,
+    left: &mut Left<'a, S>,
 ) -> bool {
     blocks::is_made(call, answer)
-        || hashing::is_made(call, answer, memory)
+        || hashing::is_made(call, answer, &mut left.memory)
         || texts::is_made(call, answer)
-        || uses::is_made(call, answer, login)
+        || types::is_made(call, answer)
+        || uses::is_made(call, answer, &mut left.login)
+        || files::is_made(rt, call, answer, &mut left.accounts)
 }
 
 // The context of a value, for a call that takes it.

@@ -1,7 +1,10 @@
 //! Calls on parameters, texts and passwords. A value is answered by its text, a list by its text in quotes, and what a text
 //! lacks by `none`.
 
-use crate::{inputs, own_context};
+use crate::answer::Answer;
+use crate::call::Call;
+use crate::drawn::Drawn;
+use crate::{context, inputs, own_context};
 use argon2::error::{kdf, password_hash};
 use argon2::login::{LoggedIn, Target};
 use argon2::password_hash::{Result, Settings, Stored};
@@ -10,12 +13,11 @@ use argon2::{
     Algorithm, AssociatedData, B64Error, CustomizedPasswordHasher, Error, KeyId, Params,
     ParamsBuilder, PasswordHash, PasswordHasher, PasswordVerifier, Version,
 };
-use argon2_lines::{Answer, Call, Drawn, context};
 use argon2_policy::Policy;
 use std::fmt::Debug;
 use std::result::Result as Outcome;
 
-pub(crate) fn is_made(call: &Call<'_, '_>, answer: &mut Answer) -> bool {
+pub(crate) fn is_made(call: &Call<'_, '_>, answer: &Answer) -> bool {
     is_of_params(call, answer)
         || is_of_texts(call, answer)
         || is_of_passwords(call, answer)
@@ -45,7 +47,7 @@ static ERRORS: [Error; 18] = [
     Error::OutOfMemory,
 ];
 
-fn is_of_params(call: &Call<'_, '_>, answer: &mut Answer) -> bool {
+fn is_of_params(call: &Call<'_, '_>, answer: &Answer) -> bool {
     match call.name {
         "context" => context::define(call, answer),
         "Argon2::algorithm" => {
@@ -65,6 +67,7 @@ fn is_of_params(call: &Call<'_, '_>, answer: &mut Answer) -> bool {
                 shown(answer, Ok(params));
             }
         }
+        "ParamsBuilder::fmt" => answer.shown(context::builder(call, 1)),
         // An algorithm, and its name in three forms.
         "Algorithm::new" => {
             if let Some(it) = answer.ok(Algorithm::new(call.word(1))) {
@@ -107,7 +110,7 @@ fn is_of_params(call: &Call<'_, '_>, answer: &mut Answer) -> bool {
 }
 
 // All that parameters say: costs, key identifier, data, output length, and how many blocks all lanes and one have.
-fn shown(answer: &mut Answer, made: Outcome<Params, Error>) {
+fn shown(answer: &Answer, made: Outcome<Params, Error>) {
     if let Some(it) = answer.ok(made) {
         answer.say(it.m_cost());
         answer.say(it.t_cost());
@@ -122,7 +125,7 @@ fn shown(answer: &mut Answer, made: Outcome<Params, Error>) {
 
 // ---- texts
 
-fn is_of_texts(call: &Call<'_, '_>, answer: &mut Answer) -> bool {
+fn is_of_texts(call: &Call<'_, '_>, answer: &Answer) -> bool {
     match call.name {
         "Salt::new" => answer.said(Salt::new(call.bytes(1))),
         "Output::new" => answer.said(Output::new(call.bytes(1))),
@@ -162,7 +165,7 @@ fn list_of(text: &str) -> Result<Option<ParamsString>> {
 }
 
 // A call on the value of a text.
-fn on_value(call: &Call<'_, '_>, answer: &mut Answer, value: &PasswordHash) {
+fn on_value(call: &Call<'_, '_>, answer: &Answer, value: &PasswordHash) {
     match call.name {
         // The identifier, the version, the list, the salt and the hash.
         "PasswordHash.fields" => {
@@ -214,19 +217,19 @@ fn version(call: &Call<'_, '_>, place: usize) -> Option<u32> {
     u32::try_from(call.number(place)?).ok()
 }
 
-fn settings(answer: &mut Answer, it: &Settings) {
+fn settings(answer: &Answer, it: &Settings) {
     answer.say(it.algorithm.as_str());
     answer.say(u32::from(it.version));
     shown_text(answer, &it.params);
 }
 
-fn shown_text(answer: &mut Answer, params: &Params) {
+fn shown_text(answer: &Answer, params: &Params) {
     answer.say(params);
     answer.say_or_none(params.output_len());
 }
 
 // A call on a parameter list.
-fn on_list(call: &Call<'_, '_>, answer: &mut Answer, list: &mut ParamsString) {
+fn on_list(call: &Call<'_, '_>, answer: &Answer, list: &mut ParamsString) {
     match call.name {
         "ParamsString::from_str" => answer.show(list),
         // The names and values, in order.
@@ -258,7 +261,7 @@ fn on_list(call: &Call<'_, '_>, answer: &mut Answer, list: &mut ParamsString) {
 
 // ---- passwords
 
-fn is_of_passwords(call: &Call<'_, '_>, answer: &mut Answer) -> bool {
+fn is_of_passwords(call: &Call<'_, '_>, answer: &Answer) -> bool {
     let alloc = answer.alloc;
     match call.name {
         // `CONTEXT GENERATOR PASSWORD`: the text.
@@ -304,7 +307,7 @@ fn is_of_passwords(call: &Call<'_, '_>, answer: &mut Answer) -> bool {
 
 // A call on a bound, `M T P`, on a store's target, `CONTEXT`, or on a policy, which `CONTEXT M T P` make; and then the
 // call's values.
-fn is_of_bounds(call: &Call<'_, '_>, answer: &mut Answer) -> bool {
+fn is_of_bounds(call: &Call<'_, '_>, answer: &Answer) -> bool {
     match call.name {
         // `.. TEXT`: the blocks.
         "Bound::admit" => {
@@ -332,7 +335,7 @@ fn is_of_bounds(call: &Call<'_, '_>, answer: &mut Answer) -> bool {
     true
 }
 
-fn of_target(call: &Call<'_, '_>, answer: &mut Answer) {
+fn of_target(call: &Call<'_, '_>, answer: &Answer) {
     if let Some(target) = answer.ok(Target::new(own_context(call, 1))) {
         match call.name {
             "Target::new" => answer.say("Ok"),
@@ -342,7 +345,7 @@ fn of_target(call: &Call<'_, '_>, answer: &mut Answer) {
 }
 
 // `.. GENERATOR PASSWORD`, and a text unless one is made.
-fn on_target(call: &Call<'_, '_>, answer: &mut Answer, target: &Target<'_>) {
+fn on_target(call: &Call<'_, '_>, answer: &Answer, target: &Target<'_>) {
     let (mut rng, password, alloc) = (call.generator(2), call.bytes(3), answer.alloc);
     if call.name == "Target::hash_password" {
         answer.said(target.hash_password(alloc, &mut rng, password));
@@ -361,7 +364,7 @@ fn on_target(call: &Call<'_, '_>, answer: &mut Answer, target: &Target<'_>) {
     }
 }
 
-fn of_policy(call: &Call<'_, '_>, answer: &mut Answer) {
+fn of_policy(call: &Call<'_, '_>, answer: &Answer) {
     let made = Policy::new(answer.alloc, own_context(call, 1), call.bound(2));
     if let Some(policy) = answer.ok(made) {
         match call.name {
@@ -378,7 +381,7 @@ fn of_policy(call: &Call<'_, '_>, answer: &mut Answer) {
 }
 
 // `.. GENERATOR PASSWORD`, then the new password if it is changed, and a text unless one is made.
-fn on_policy(call: &Call<'_, '_>, place: usize, answer: &mut Answer, policy: &Policy<'_>) {
+fn on_policy(call: &Call<'_, '_>, place: usize, answer: &Answer, policy: &Policy<'_>) {
     let (mut rng, password) = (call.generator(place), call.bytes(place.saturating_add(1)));
     match call.name {
         "Policy::hash_password" => {
@@ -405,7 +408,7 @@ fn on_policy(call: &Call<'_, '_>, place: usize, answer: &mut Answer, policy: &Po
 }
 
 // What a login did, how many bytes it drew, and the fresh text.
-fn logged_in<E: Debug + Drop>(answer: &mut Answer, done: Outcome<LoggedIn, E>, rng: &Drawn) {
+fn logged_in<E: Debug + Drop>(answer: &Answer, done: Outcome<LoggedIn, E>, rng: &Drawn) {
     match done {
         Ok(LoggedIn { accepted, fresh }) => {
             answer.show(accepted);

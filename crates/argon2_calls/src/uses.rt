@@ -2,18 +2,19 @@
 //! An answer says what the call returns and how many bytes it drew, if it may draw. Those of a login store end with the text of
 //! the name then, or `none`.
 
+use crate::answer::Answer;
+use crate::call::Call;
 use crate::{inputs, own_context};
 use argon2::login::{Login, login_runs};
 use argon2::phc::{Output, Salt};
 use argon2::{Argon2, Block};
-use argon2_lines::{Answer, Call};
 use argon2_uses::arena::{Input, hash_all};
 use argon2_uses::vault::Header;
 use argon2_uses::{digest, login, passwords, scheduler, vault};
 
 pub(crate) fn is_made<'a>(
     call: &Call<'_, 'a>,
-    answer: &mut Answer,
+    answer: &Answer,
     store: &mut Option<Login<'a>>,
 ) -> bool {
     is_of_example(call, answer) || is_of_store(call, answer, store)
@@ -21,11 +22,7 @@ pub(crate) fn is_made<'a>(
 
 // ---- a login store
 
-fn is_of_store<'a>(
-    call: &Call<'_, 'a>,
-    answer: &mut Answer,
-    store: &mut Option<Login<'a>>,
-) -> bool {
+fn is_of_store<'a>(call: &Call<'_, 'a>, answer: &Answer, store: &mut Option<Login<'a>>) -> bool {
     match call.name {
         "login_runs" => {
             login_runs();
@@ -48,7 +45,7 @@ fn is_of_store<'a>(
 }
 
 // A call on a store, or one of the example on a store.
-fn is_on_store<'a>(call: &Call<'_, 'a>, answer: &mut Answer, store: &mut Login<'a>) -> bool {
+fn is_on_store<'a>(call: &Call<'_, 'a>, answer: &Answer, store: &mut Login<'a>) -> bool {
     match call.name {
         // `NAME TEXT`.
         "Login::add" => {
@@ -102,7 +99,7 @@ fn is_on_store<'a>(call: &Call<'_, 'a>, answer: &mut Answer, store: &mut Login<'
 
 // ---- the other examples
 
-fn is_of_example(call: &Call<'_, '_>, answer: &mut Answer) -> bool {
+fn is_of_example(call: &Call<'_, '_>, answer: &Answer) -> bool {
     match call.name {
         "digest::digest" => answer.hex(&digest::digest(call.bytes(1), call.bytes(2))),
         // `GENERATOR PASSWORD`.
@@ -131,7 +128,7 @@ fn is_of_example(call: &Call<'_, '_>, answer: &mut Answer) -> bool {
 }
 
 // `CONTEXT PASSPHRASE SALT`: the key and the header's tag.
-fn sealed(call: &Call<'_, '_>, answer: &mut Answer) {
+fn sealed(call: &Call<'_, '_>, answer: &Answer) {
     let (argon2, passphrase) = (call.context(1), call.bytes(2));
     let Ok(salt) = Salt::new(call.bytes(3)) else {
         return call.refuse();
@@ -145,7 +142,7 @@ fn sealed(call: &Call<'_, '_>, answer: &mut Answer) {
 }
 
 // `CONTEXT PASSPHRASE SALT TAG`: the key, or `none`.
-fn opened(call: &Call<'_, '_>, answer: &mut Answer) {
+fn opened(call: &Call<'_, '_>, answer: &Answer) {
     let (argon2, passphrase) = (call.context(1), call.bytes(2));
     let (Ok(salt), Ok(tag)) = (Salt::new(call.bytes(3)), Output::new(call.bytes(4))) else {
         return call.refuse();
@@ -158,13 +155,13 @@ fn opened(call: &Call<'_, '_>, answer: &mut Answer) {
 }
 
 // As many blocks as a context fills.
-fn blocks(answer: &mut Answer, argon2: &Argon2<'_>) -> Vec<Block> {
+fn blocks(answer: &Answer, argon2: &Argon2<'_>) -> Vec<Block> {
     let count = argon2.params().block_count();
     answer.granted(Vec::from_elem(answer.alloc, Block::new(), count))
 }
 
 // `CONTEXT PASSWORD SALT LENGTH`: the tag.
-fn hashed_in_rounds(call: &Call<'_, '_>, answer: &mut Answer) {
+fn hashed_in_rounds(call: &Call<'_, '_>, answer: &Answer) {
     let (argon2, password, salt) = inputs(call);
     let (mut memory, mut out) = (blocks(answer, argon2), answer.ones(call.count(4)));
     let (tag, memory) = (out.as_mut_slice(), memory.as_mut_slice());
@@ -173,7 +170,7 @@ fn hashed_in_rounds(call: &Call<'_, '_>, answer: &mut Answer) {
 }
 
 // `CONTEXT PASSWORD SALT PASSWORD SALT`: the two tags.
-fn hash_both(call: &Call<'_, '_>, answer: &mut Answer) {
+fn hash_both(call: &Call<'_, '_>, answer: &Answer) {
     let input = |password, salt| Input { password, salt };
     let inputs = [
         input(call.bytes(2), call.bytes(3)),

@@ -1,29 +1,28 @@
-//! Makes the calls on accounts in a file that the lines of standard input name, and prints each line with its answer.
-//! `argon2_lines` says how lines and values are written. The answer of a call on a name ends with its text then, or why it
-//! can't be read, and with `closed` if the file has to be opened again.
-#![tactic(auto)]
+//! Calls on accounts in a file. The answer of a call on a name ends with its text then, or why it can't be read, and with
+//! `closed` if the file has to be opened again.
 
+use crate::answer::Answer;
+use crate::call::Call;
+use crate::own_context;
 use argon2::PasswordHash;
 use argon2_accounts::Accounts;
-use argon2_lines::{Answer, Call, Contexts, Line, context, line};
 use argon2_policy::Policy;
 use argon2_rows::{StoredText, View};
 use argon2_store::{AccountFile, OpenError, account_file_runs};
 use sqlite_std_file::{FileFrom, Wary};
 use sqlite_store::FileStore;
 use sqlite_trees::store::Store;
-use std::io::{self, BufWriter, Read, Write};
 
-type OnDisk = FileStore<FileFrom<Wary>>;
+pub(crate) type OnDisk = FileStore<FileFrom<Wary>>;
 
 // The calls that need files on a disk. All else is over any store that has them: the prover takes long for each call that
 // passes `OnDisk` on.
-trait Disks: Store + Drop {
+pub(crate) trait Disks: Store + Drop {
     fn open(rt: &HostRuntime, path: &str) -> Result<AccountFile<Self>, OpenError>;
 
-    fn checkpoint(answer: &mut Answer, file: &mut AccountFile<Self>);
+    fn checkpoint(answer: &Answer, file: &mut AccountFile<Self>);
 
-    fn sign_up(call: &Call<'_, '_>, answer: &mut Answer, held: &mut Accounts<'_, Self>);
+    fn sign_up(call: &Call<'_, '_>, answer: &Answer, held: &mut Accounts<'_, Self>);
 }
 
 impl Disks for OnDisk {
@@ -31,51 +30,25 @@ impl Disks for OnDisk {
         AccountFile::open(rt, path, Wary)
     }
 
-    fn checkpoint(answer: &mut Answer, file: &mut AccountFile<OnDisk>) {
+    fn checkpoint(answer: &Answer, file: &mut AccountFile<OnDisk>) {
         answer.done(file.checkpoint());
     }
 
     // `NAME GENERATOR PASSWORD`.
-    fn sign_up(call: &Call<'_, '_>, answer: &mut Answer, held: &mut Accounts<'_, OnDisk>) {
+    fn sign_up(call: &Call<'_, '_>, answer: &Answer, held: &mut Accounts<'_, OnDisk>) {
         let (name, mut rng, password) = (call.word(1), call.generator(2), call.bytes(3));
         answer.done(argon2_service::sign_up(held, &mut rng, name, password));
         answer.drawn(&rng);
     }
 }
 
-fn main(rt: HostRuntime) -> io::Result<()> {
-    let alloc = rt.alloc();
-    let mut text = String::new(alloc);
-    rt.reader().read_to_string(&mut text)?;
-    let lines = line::lines_of(alloc, text.as_str())?;
-    let mut output = BufWriter::new(alloc, rt.stdout())?;
-    write_all::<OnDisk, _>(&rt, &mut output, &lines)
-}
-
-fn write_all<'a, S: Disks, W: Write>(
-    rt: &HostRuntime,
-    output: &mut W,
-    lines: &'a [Line<'a>],
-) -> io::Result<()> {
-    let (mut contexts, mut answer) = (Contexts::new(rt.alloc()), Answer::new(rt.alloc()));
-    contexts.add(lines)?;
-    let mut accounts: Option<Accounts<'a, S>> = None;
-    for line in lines {
-        let call = Call::new(line, &contexts);
-        make(rt, &call, &mut answer, &mut accounts);
-        answer.write(&call, output)?;
-    }
-    output.flush()
-}
-
-fn make<'a, S: Disks>(
+pub(crate) fn is_made<'a, S: Disks>(
     rt: &HostRuntime,
     call: &Call<'_, 'a>,
-    answer: &mut Answer,
+    answer: &Answer,
     accounts: &mut Option<Accounts<'a, S>>,
-) {
+) -> bool {
     match call.name {
-        "context" => context::define(call, answer),
         "account_file_runs" => {
             account_file_runs();
             answer.say("Ok");
@@ -89,22 +62,21 @@ fn make<'a, S: Disks>(
         }
         _ => match accounts {
             Some(held) => on_accounts(call, answer, held),
-            None => call.refuse(),
+            None => return false,
         },
     }
+    true
 }
 
 // `AccountFile::open PATH CONTEXT M T P`: a file, and the policy for its accounts that the last four make.
 fn open<'a, S: Disks>(
     rt: &HostRuntime,
     call: &Call<'_, 'a>,
-    answer: &mut Answer,
+    answer: &Answer,
     accounts: &mut Option<Accounts<'a, S>>,
 ) {
-    let argon2 = call.context(2).clone().unwrap_or_default();
-    let Ok(policy) = Policy::new(answer.alloc, argon2, call.bound(3)) else {
-        answer.is_refused = true;
-        return;
+    let Ok(policy) = Policy::new(answer.alloc, own_context(call, 2), call.bound(3)) else {
+        return answer.refuse();
     };
     if let Some(file) = answer.ok(S::open(rt, call.word(1))) {
         *accounts = Some(Accounts { policy, file });
@@ -112,7 +84,7 @@ fn open<'a, S: Disks>(
     }
 }
 
-fn on_accounts<S: Disks>(call: &Call<'_, '_>, answer: &mut Answer, held: &mut Accounts<'_, S>) {
+fn on_accounts<S: Disks>(call: &Call<'_, '_>, answer: &Answer, held: &mut Accounts<'_, S>) {
     match call.name {
         "AccountFile::write_lines" => write_lines(answer, &mut held.file),
         "AccountFile::checkpoint" => S::checkpoint(answer, &mut held.file),
@@ -132,7 +104,7 @@ fn on_accounts<S: Disks>(call: &Call<'_, '_>, answer: &mut Answer, held: &mut Ac
 }
 
 // The lines, joined by spaces.
-fn write_lines<S: Store>(answer: &mut Answer, file: &mut AccountFile<S>) {
+fn write_lines<S: Store>(answer: &Answer, file: &mut AccountFile<S>) {
     let mut output = Vec::new(answer.alloc);
     answer.done(file.write_lines(View::Texts, &mut output));
     for entry in str::from_utf8(&output).unwrap_or("").lines() {
@@ -141,7 +113,7 @@ fn write_lines<S: Store>(answer: &mut Answer, file: &mut AccountFile<S>) {
 }
 
 // `NAME TEXT NAME TEXT`: an error comes with the place of the entry that is refused.
-fn add_all<S: Store>(call: &Call<'_, '_>, answer: &mut Answer, file: &mut AccountFile<S>) {
+fn add_all<S: Store>(call: &Call<'_, '_>, answer: &Answer, file: &mut AccountFile<S>) {
     let Ok((one, _)) = StoredText::new(call.word(2)) else {
         return call.refuse();
     };
@@ -159,7 +131,7 @@ fn add_all<S: Store>(call: &Call<'_, '_>, answer: &mut Answer, file: &mut Accoun
 }
 
 // A call on `NAME`.
-fn on_name<S: Store>(call: &Call<'_, '_>, answer: &mut Answer, file: &mut AccountFile<S>) {
+fn on_name<S: Store>(call: &Call<'_, '_>, answer: &Answer, file: &mut AccountFile<S>) {
     let name = call.word(1);
     match call.name {
         "AccountFile::text_of" => {}
@@ -188,14 +160,14 @@ fn on_name<S: Store>(call: &Call<'_, '_>, answer: &mut Answer, file: &mut Accoun
 }
 
 // The text of `NAME`, or why it can't be read.
-fn show_text<S: Store>(call: &Call<'_, '_>, answer: &mut Answer, file: &mut AccountFile<S>) {
+fn show_text<S: Store>(call: &Call<'_, '_>, answer: &Answer, file: &mut AccountFile<S>) {
     if let Some(text) = answer.ok(file.text_of(call.word(1))) {
         answer.say_or_none(text);
     }
 }
 
 // A call on `NAME GENERATOR PASSWORD`, or `NAME GENERATOR OLD NEW`.
-fn with_password<S: Store>(call: &Call<'_, '_>, answer: &mut Answer, held: &mut Accounts<'_, S>) {
+fn with_password<S: Store>(call: &Call<'_, '_>, answer: &Answer, held: &mut Accounts<'_, S>) {
     let (name, mut rng, password) = (call.word(1), call.generator(2), call.bytes(3));
     match call.name {
         "Accounts::register" => answer.done(held.register(&mut rng, name, password)),

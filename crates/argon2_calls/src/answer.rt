@@ -3,17 +3,17 @@
 use crate::call::Call;
 use crate::drawn::Drawn;
 use std::alloc::{AllocError, Global};
+use std::cell::Cell;
 use std::fmt::{Debug, Display};
 use std::io::{self, Write};
 
-/// What is answered.
+/// What is answered. It can be added to behind a shared reference, so that a call of it is cheap to prove.
 #[derive(Drop)]
 pub struct Answer {
     /// What the calls allocate by.
     pub alloc: Global,
-    text: String,
-    /// Whether memory was refused for a value or for the answer.
-    pub is_refused: bool,
+    text: Cell<String>,
+    is_refused: Cell<bool>,
 }
 
 impl Answer {
@@ -21,8 +21,8 @@ impl Answer {
     pub fn new(alloc: Global) -> Answer {
         Answer {
             alloc,
-            text: String::new(alloc),
-            is_refused: false,
+            text: Cell::new(String::new(alloc)),
+            is_refused: Cell::new(false),
         }
     }
 
@@ -30,52 +30,58 @@ impl Answer {
     ///
     /// # Errors
     /// The first failure of the writer.
-    pub fn write<W: Write>(&mut self, call: &Call<'_, '_>, output: &mut W) -> io::Result<()> {
-        let text = call.text();
+    pub fn write<W: Write>(&self, call: &Call<'_, '_>, output: &mut W) -> io::Result<()> {
+        let (text, answer) = (call.text(), self.text.replace(String::new(self.alloc)));
+        let is_refused = self.is_refused.replace(false);
         if text.is_empty() || text.starts_with('#') {
-            writeln!(output, "{text}")?;
+            writeln!(output, "{text}")
+        } else if is_refused {
+            writeln!(output, "{text} = no memory")
+        } else if call.is_unread() {
+            writeln!(output, "{text} = ?")
         } else {
-            writeln!(output, "{text} ={}", self.to(call))?;
+            writeln!(output, "{text} ={answer}")
         }
-        self.text.clear();
-        self.is_refused = false;
-        Ok(())
     }
 
-    // The answer to a call, each word behind a space.
-    fn to(&self, call: &Call<'_, '_>) -> &str {
-        if self.is_refused {
-            " no memory"
-        } else if call.is_unread() {
-            " ?"
-        } else {
-            self.text.as_str()
-        }
+    /// Remembers that memory was refused for a value or for the answer.
+    pub fn refuse(&self) {
+        self.is_refused.set(true);
     }
 
     /// A list, which is empty if memory was refused for it.
-    pub fn granted<T: Drop>(&mut self, list: Result<Vec<T>, AllocError>) -> Vec<T> {
-        self.is_refused |= list.is_err();
+    pub fn granted<T: Drop>(&self, list: Result<Vec<T>, AllocError>) -> Vec<T> {
+        if list.is_err() {
+            self.refuse();
+        }
         list.unwrap_or(Vec::new(self.alloc))
     }
 
     /// As many bytes ff as a length says.
-    pub fn ones(&mut self, len: u32) -> Vec<u8> {
+    pub fn ones(&self, len: u32) -> Vec<u8> {
         self.granted(Vec::from_elem(self.alloc, 0xff, len as usize))
     }
 
     /// A value.
-    pub fn say<T: Display + Drop>(&mut self, value: T) {
-        self.is_refused |= write!(self.text, " {value}").is_err();
+    pub fn say<T: Display + Drop>(&self, value: T) {
+        let mut text = self.text.replace(String::new(self.alloc));
+        if write!(text, " {value}").is_err() {
+            self.refuse();
+        }
+        self.text.set(text);
     }
 
     /// An error, or another value by its name.
-    pub fn show<T: Debug + Drop>(&mut self, value: T) {
-        self.is_refused |= write!(self.text, " {value:?}").is_err();
+    pub fn show<T: Debug + Drop>(&self, value: T) {
+        let mut text = self.text.replace(String::new(self.alloc));
+        if write!(text, " {value:?}").is_err() {
+            self.refuse();
+        }
+        self.text.set(text);
     }
 
     /// A value, or `none`.
-    pub fn say_or_none<T: Display + Drop>(&mut self, value: Option<T>) {
+    pub fn say_or_none<T: Display + Drop>(&self, value: Option<T>) {
         match value {
             Some(value) => self.say(value),
             None => self.say("none"),
@@ -83,15 +89,15 @@ impl Answer {
     }
 
     /// Bytes as hex digits.
-    pub fn hex(&mut self, bytes: &[u8]) {
+    pub fn hex(&self, bytes: &[u8]) {
         match hex::encode(self.alloc, bytes) {
             Ok(digits) => self.say(digits.as_str()),
-            Err(_) => self.is_refused = true,
+            Err(_) => self.refuse(),
         }
     }
 
     /// The value that a call returned, or its error.
-    pub fn said<T: Display + Drop, E: Debug + Drop>(&mut self, done: Result<T, E>) {
+    pub fn said<T: Display + Drop, E: Debug + Drop>(&self, done: Result<T, E>) {
         match done {
             Ok(value) => self.say(value),
             Err(e) => self.show(e),
@@ -99,7 +105,7 @@ impl Answer {
     }
 
     /// The value that a call returned, by its name, or its error.
-    pub fn shown<T: Debug + Drop, E: Debug + Drop>(&mut self, done: Result<T, E>) {
+    pub fn shown<T: Debug + Drop, E: Debug + Drop>(&self, done: Result<T, E>) {
         match done {
             Ok(value) => self.show(value),
             Err(e) => self.show(e),
@@ -107,7 +113,7 @@ impl Answer {
     }
 
     /// `Ok`, or the error of a call.
-    pub fn done<E: Debug + Drop>(&mut self, done: Result<(), E>) {
+    pub fn done<E: Debug + Drop>(&self, done: Result<(), E>) {
         match done {
             Ok(()) => self.say("Ok"),
             Err(e) => self.show(e),
@@ -115,7 +121,7 @@ impl Answer {
     }
 
     /// The bytes that a call has written, or `Ok` if they are ff as before; or its error, and whether they are.
-    pub fn written<E: Debug + Drop>(&mut self, done: Result<(), E>, out: &[u8]) {
+    pub fn written<E: Debug + Drop>(&self, done: Result<(), E>, out: &[u8]) {
         let is_same = out.iter().all(|byte| *byte == 0xff);
         match done {
             Ok(()) if is_same => self.say("Ok"),
@@ -128,12 +134,12 @@ impl Answer {
     }
 
     /// Whether something is the same as before a call.
-    pub fn same(&mut self, is_same: bool) {
+    pub fn same(&self, is_same: bool) {
         self.say(if is_same { "same" } else { "changed" });
     }
 
     /// The value that a call returned. If it returned an error, that is the answer.
-    pub fn ok<T: Drop, E: Debug + Drop>(&mut self, done: Result<T, E>) -> Option<T> {
+    pub fn ok<T: Drop, E: Debug + Drop>(&self, done: Result<T, E>) -> Option<T> {
         match done {
             Ok(value) => Some(value),
             Err(e) => {
@@ -144,7 +150,7 @@ impl Answer {
     }
 
     /// How many bytes a generator has drawn.
-    pub fn drawn(&mut self, rng: &Drawn) {
+    pub fn drawn(&self, rng: &Drawn) {
         self.say("drawn");
         self.say(rng.count());
     }

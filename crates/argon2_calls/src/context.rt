@@ -62,7 +62,7 @@ impl<'a> Contexts<'a> {
 }
 
 /// Answers a line `context ..`.
-pub fn define(call: &Call<'_, '_>, answer: &mut Answer) {
+pub fn define(call: &Call<'_, '_>, answer: &Answer) {
     answer.done(read(call).and(Ok(())));
 }
 
@@ -81,8 +81,14 @@ fn read<'a>(call: &Call<'_, 'a>) -> Result<Argon2<'a>> {
     }
 }
 
-/// The parameters that the values from a place on say, by a builder, and the secret.
+/// The parameters that the values from a place on say, and the secret.
 pub fn settings<'a>(call: &Call<'_, 'a>, place: usize) -> Result<(Params, Option<&'a [u8]>)> {
+    let params = builder(call, place)?.build()?;
+    Ok((params, option(call, "secret", place)))
+}
+
+/// A builder of the parameters that the values from a place on say.
+pub fn builder(call: &Call<'_, '_>, place: usize) -> Result<ParamsBuilder> {
     let (bound, mut builder) = (call.bound(place), ParamsBuilder::new());
     builder.m_cost(bound.m_cost);
     builder.t_cost(bound.t_cost);
@@ -96,7 +102,7 @@ pub fn settings<'a>(call: &Call<'_, 'a>, place: usize) -> Result<(Params, Option
     if let Some(bytes) = option(call, "data", place) {
         builder.data(AssociatedData::new(bytes)?);
     }
-    Ok((builder.build()?, option(call, "secret", place)))
+    Ok(builder)
 }
 
 // The bytes of the option of this name, behind four values from a place on.
