@@ -8,6 +8,7 @@ module Argon2
   extern "int argon2id_hash_encoded(unsigned int, unsigned int, unsigned int, const void *, size_t, const void *, size_t, size_t, char *, size_t)"
   extern "int argon2id_verify(const char *, const void *, size_t)"
   extern "const char *argon2_error_message(int)"
+  VERIFY_MISMATCH = -35
 
   # The text of a password.
   def self.hash(password)
@@ -16,8 +17,6 @@ module Argon2
     raise argon2_error_message(code).to_s unless code.zero?
     text.unpack1("Z*")
   end
-
-  VERIFY_MISMATCH = -35
 
   # Whether a stored text accepts a password.
   def self.accepts?(text, password)
