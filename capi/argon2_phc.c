@@ -245,7 +245,6 @@ static int verify_under(const struct verifying *v, argon2_context *c, const void
         answer = argon2_c_phc_verify(v->bound, v->text, v->text_len, v->pwd, v->pwd_len, some(secret), n, memory, block_count(c));
         wipe(memory, block_count(c) * sizeof(block));
     }
-    wipe_stack();
     return answer;
 }
 
@@ -276,14 +275,14 @@ int argon2p_verify(const argon2p_verifier *verifier, const char *text, size_t te
         .threads = own.threads && own.threads < shown.p_cost ? own.threads : shown.p_cost, .version = shown.version,
     };
     memory = new_blocks(block_count(&c));
-    if (!memory) return ARGON2P_OUT_OF_MEMORY;
-    answer = verify_under(&v, &c, own.secret, own.secret_len, memory);
+    answer = memory ? verify_under(&v, &c, own.secret, own.secret_len, memory) : ARGON2P_OUT_OF_MEMORY;
     if (answer == ARGON2P_MISMATCH && own.has_old_secret) {
         answer = verify_under(&v, &c, own.old_secret, own.old_secret_len, memory);
         is_old = true;
     }
-    free_blocks(memory, block_count(&c));
+    if (memory) free_blocks(memory, block_count(&c));
     wipe(&shown, sizeof shown);
+    wipe_stack();
     if (answer == ARGON2P_OK && by_old_secret) *by_old_secret = is_old;
     return answer;
 }

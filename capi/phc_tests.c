@@ -493,6 +493,7 @@ static void stacks_of_calls(void) {
 
 #ifdef REFUSES
 static void refused_memory(void) {
+    refuse = 1, stacks_of_calls(), refuse = 0;
     for (int which = 0; which < 4; which++) {
         int answer;
         unwiped = 0;
