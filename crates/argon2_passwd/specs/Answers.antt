@@ -189,9 +189,9 @@ IsUnfit policy (Check text) input failure = IsUnread input failure
     ⊎ OfPassword (λ password. IsDenied (Denial policy password) (Some text.now) failure) input
 IsUnfit policy (OnFile path (Verify name)) input failure = IsUnread input failure
 IsUnfit policy (OnFile path (Edits Register name)) input failure =
-    (IsTrue (breaks_lines name.now) × (failure ≡ Name)) ⊎ IsUnread input failure
+    (IsTrue (breaks_lines name.now) × (failure ≡ Name)) ⊎ ((breaks_lines name.now ≡ false) × IsUnread input failure)
 IsUnfit policy (OnFile path (Edits Change name)) input failure =
-    IsUnread input failure ⊎ IsUnread (behind input) failure
+    IsUnread input failure ⊎ OfPassword (λ first. IsUnread (behind input) failure) input
 IsUnfit policy (OnFile path (Edits Set name)) input failure = IsUnread input failure
 IsUnfit policy (OnFile path (Import any_text)) input failure =
     OfLines any_text input (λ said. IsOfFirst (flaws_from 1 said) failure)
