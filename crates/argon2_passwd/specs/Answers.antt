@@ -1,5 +1,5 @@
 -- What the program answers. The words that the contracts share with it are passed on.
-use Rattle.std.specs.Prelude.{◌≡◌, ◌≢◌, ◌⊎◌, ℕ, ◌||◌, false, Bool, ◌+◌, IsTrue, List, [], ◌∷◌, ◌++◌, Option, Some, None, IfSome, Result, Ok, Err, IfOk, IsErrAnd, is_ok, if◌then◌else◌, IsSomeAnd, map}
+use Rattle.std.specs.Prelude.{◌≡◌, ◌≢◌, ◌⊎◌, ℕ, ◌||◌, false, Bool, ◌+◌, IsTrue, List, [], ◌∷◌, ◌++◌, Option, Some, None, IfSome, Result, Ok, Err, IfOk, IsErrAnd, is_ok, if◌then◌else◌, IsSomeAnd, map, unwrap_or}
 use Rattle.std.specs.Io.BufRead.{drop_through}
 pub use Rattle.std.specs.Option.{option_map}
 pub use Rattle.std.specs.Io.KnownBytes.{Appends, Keeps}
@@ -25,7 +25,7 @@ use Rattle.argon2_store.specs.Edits.{Edit as FileEdit, adding, locking, removing
 pub use Rattle.argon2_store.specs.Edits.{additions}
 use Rattle.argon2_store.specs.Errors.{read_by}
 pub use Rattle.argon2_store.specs.declared.account_file.AccountFile.{AccountFile}
-pub use Rattle.argon2_store.specs.declared.error.FileError.TheVariants.{NameTaken, NameUnknown}
+pub use Rattle.argon2_store.specs.declared.error.FileError.TheVariants.{Damaged, NameTaken, NameUnknown, OutOfMemory}
 pub use Rattle.argon2_passwd.specs.Options.{policy_by}
 use Rattle.argon2_passwd.specs.declared.command.Action.{Action}
 use Rattle.argon2_passwd.specs.declared.command.Action.TheVariants.{Hash, Check, OnFile}
@@ -145,13 +145,14 @@ module _ {S : Type 0} {g : Ghosts S} where
   PassesOver (Passed passed) ls before after = (passed.items ≢ []) × AddsEntries (Ok tt) ls passed.items before after
   PassesOver _ ls before after = ⊥
 
-  -- how an addition of their entries ended; before a failure that is no refusal names were looked up, or the entries
-  -- were to be added
+  -- How an addition of their entries ended. Before a failure that is no refusal, names were looked up until a look-up failed or
+  -- memory ran out, or the entries were to be added. If a name that was looked up is taken, the file is damaged.
   abbrev pub AddsOthers : Outcome → List Line → AccountFile S g → AccountFile S g → Type 0
   AddsOthers (Ok _) ls before after = AddsEntries (Ok tt) ls [] before after
   AddsOthers (Err failure) ls before after = PassesOver failure ls before after ⊎ ((status_of failure ≡ 3)
-      × (((error : Option FileError) × Looks error before after)
-      ⊎ ((e : FileError) × (passed : List (ℕ × Flaw)) × AddsEntries (Err e) ls passed before after)))
+      × (((error : Option FileError) × Looks error before after × IsOfFile (unwrap_or error OutOfMemory) failure)
+      ⊎ ((e : FileError) × (passed : List (ℕ × Flaw)) × AddsEntries (Err e) ls passed before after
+      × IsOfFile (if is_refusal e then Damaged else e) failure)))
 
   -- a file at a path that was opened, with its names
   abbrev pub IsOpened : (List ℕ → Texts → Type 0) → List ℕ → AccountFile S g → Type 0

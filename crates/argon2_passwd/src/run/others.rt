@@ -1,7 +1,7 @@
 //! An import that passes over lines.
 
-ghost use Rattle.std.specs.Prelude.{◌≡◌, [], ℕ, List, None, Err, Ok, Option, Some, false, IfErr, IfOk, MatchResult, OnOk, map};
-ghost use Rattle.argon2_passwd.specs.Answers.{AddsOthers, HasNames, IsHonest, IsServed, Looks, Serves, Texts, additions, database_of, entry_of, entry_or_flaw, is_refusal, policy_value, status_of, unless_known};
+ghost use Rattle.std.specs.Prelude.{◌≡◌, [], ℕ, List, None, Err, Ok, Option, Some, false, if◌then◌else◌, IfErr, IfOk, MatchResult, OnOk, map, unwrap_or};
+ghost use Rattle.argon2_passwd.specs.Answers.{AddsOthers, Damaged, HasNames, IsHonest, IsOfFile, IsServed, Looks, OutOfMemory, Serves, Texts, additions, database_of, entry_of, entry_or_flaw, is_refusal, policy_value, status_of, unless_known};
 
 use super::accounts::{Access, open};
 use crate::command::{Action, Task};
@@ -63,7 +63,8 @@ fn new_lines<'a, S: Store>(
 ) -> Result<Vec<Line<'a>>, Failure>
     ensures looks { OnOk result (Looks None accounts.old accounts.new) }
     ensures fails { IfErr result (λ failure. (status_of failure ≡ 3)
-        × (error : Option FileError) × Looks error accounts.old accounts.new) }
+        × (error : Option FileError) × Looks error accounts.old accounts.new
+        × IsOfFile (unwrap_or error OutOfMemory) failure) }
     ensures new { (names : Texts) → HasNames accounts.old names → IfOk result (λ found.
         IsHonest S.Store (database_of accounts.new) → map entry_or_flaw found.items
         ≡ map (unless_known names) (map entry_or_flaw lines.now)) }
@@ -105,7 +106,8 @@ fn add_new<S: Store>(
     ensures ok { OnOk result
         (Serves (additions (map entry_of entries.now)) (Ok tt) accounts.old accounts.new) }
     ensures err { IfErr result (λ failure. (status_of failure ≡ 3) × (e : FileError)
-        × Serves (additions (map entry_of entries.now)) (Err e) accounts.old accounts.new) }
+        × Serves (additions (map entry_of entries.now)) (Err e) accounts.old accounts.new
+        × IsOfFile (if is_refusal e then Damaged else e) failure) }
 {
     let Err((_, error)) = accounts.add_all(entries) else {
         return Ok(());

@@ -4,19 +4,20 @@ use Rattle.argon2_passwd.proofs.run.others.add_others.Goals as goal
 
 pub returns-in_err-new : goal.returns-in_err-new
 returns-in_err-new g c =
-    let (three, error, looks) = c.in_err-new.ensures.fails in rw (err_is _ _ c.from_residual.ensures.1) (inr (three, inl (error, looks)))
+    let (three, error, looks, is) = c.in_err-new.ensures.fails in
+    rw (err_is _ _ c.from_residual.ensures.1) (inr (three, inl (error, looks, is)))
 
 pub returns-in_err-entries : goal.returns-in_err-entries
 returns-in_err-entries g c =
     let (f, is, of) = err_from_is_err_and c.from_residual-in_err-entries.result c.from_residual-in_err-entries.ensures.1 in
-    rw is (inr (memory_is f of, inl (None, c.in_ok-new.ensures.looks)))
+    rw is (inr (memory_is f of, inl (None, c.in_ok-new.ensures.looks, of)))
 
 pub returns-in_err-add_new : goal.returns-in_err-add_new
 returns-in_err-add_new g c =
-    let (three, e, serves) = rw c.as_slice-2.ensures.value at c.in_err-add_new.ensures.err in
+    let (three, e, serves, is) = rw c.as_slice-2.ensures.value at c.in_err-add_new.ensures.err in
     let split = rw c.as_slice.ensures.value at c.in_ok-entries.ensures in
     rw (err_is _ _ c.from_residual-in_err-add_new.ensures.1)
-    (inr (three, inr (e, _, added _ _ _ c.in_ok-new.ensures.looks serves split c.in_ok-new.ensures.new)))
+    (inr (three, inr (e, _, added _ _ _ c.in_ok-new.ensures.looks serves split c.in_ok-new.ensures.new, is)))
 
 pub returns-then-is_empty : goal.returns-then-is_empty
 returns-then-is_empty g c =

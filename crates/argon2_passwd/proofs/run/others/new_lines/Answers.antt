@@ -7,12 +7,12 @@ pub returns-in_err-unless_known-clause-fails : goal.returns-in_err-unless_known-
 returns-in_err-unless_known-clause-fails g c =
     let e = c.in_err-unless_known.field-0.0 in
     let (f, is, of) = err_from_is_err_and c.from_residual.result c.from_residual.ensures.1 in
-    rw is (no_refusal e f of c.in_err-unless_known.ensures.error, Some e, looks_then (Some e) _ _ _ c.loop-line.invariant.0 c.in_err-unless_known.ensures.looks)
+    rw is (no_refusal e f of c.in_err-unless_known.ensures.error, Some e, looks_then (Some e) _ _ _ c.loop-line.invariant.0 c.in_err-unless_known.ensures.looks, of)
 
 pub returns-in_err-push-clause-fails : goal.returns-in_err-push-clause-fails
 returns-in_err-push-clause-fails g c =
     let (f, is, of) = err_from_is_err_and c.from_residual-in_err-push.result c.from_residual-in_err-push.ensures.1 in
-    rw is (memory_is f of, None, looks_then None _ _ _ c.loop-line.invariant.0 c.in_ok-unless_known.ensures.looks)
+    rw is (memory_is f of, None, looks_then None _ _ _ c.loop-line.invariant.0 c.in_ok-unless_known.ensures.looks, of)
 
 pub loop-line-preserved : goal.loop-line-preserved
 loop-line-preserved g c =
