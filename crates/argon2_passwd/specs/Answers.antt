@@ -1,5 +1,5 @@
 -- What the program answers. The words that the contracts share with it are passed on.
-use Rattle.std.specs.Prelude.{◌≡◌, ◌≢◌, ◌⊎◌, ℕ, ◌||◌, false, Bool, ◌+◌, IsTrue, List, [], ◌∷◌, ◌++◌, Option, Some, None, IfSome, Result, Ok, Err, IfOk, IsErrAnd, is_ok, if◌then◌else◌, IsSomeAnd, map, unwrap_or}
+use Rattle.std.specs.Prelude.{◌≡◌, ◌≢◌, ◌⊎◌, ℕ, ◌||◌, false, Bool, ◌+◌, IsTrue, List, [], ◌∷◌, ◌++◌, Option, Some, None, IfSome, Result, Ok, Err, IfOk, IsErrAnd, is_ok, if◌then◌else◌, IsSomeAnd, map, take, unwrap_or}
 use Rattle.std.specs.Io.BufRead.{drop_through}
 pub use Rattle.std.specs.Option.{option_map}
 pub use Rattle.std.specs.Io.KnownBytes.{Appends, Keeps}
@@ -14,7 +14,7 @@ use Rattle.argon2.specs.declared.bound.BoundError.TheVariants as bound
 use Rattle.argon2.specs.declared.login.answers.Accepted.{Accepted}
 use Rattle.argon2.specs.declared.login.answers.Accepted.TheVariants.{Kept, Rehashed}
 pub use Rattle.argon2_policy.specs.Policy.{Admits, ChangeRefusal, Denial, IsPolicy, LogsIn, Policy, policy_value}
-use Rattle.argon2_programs.specs.Lines.{AppendsFront}
+pub use Rattle.argon2_programs.specs.Lines.{AppendsFront}
 pub use Rattle.argon2_rows.specs.Locks.{is_locked}
 pub use Rattle.argon2_rows.specs.Names.{IsFirstTaken, Texts, entry_of}
 use Rattle.argon2_rows.specs.Rows.{breaks_line}
@@ -37,10 +37,11 @@ pub use Rattle.argon2_passwd.specs.Passwords.{IsUnread, password_of}
 pub use Rattle.argon2_passwd.specs.Salts.{IsSalt, next_salt}
 use Rattle.argon2_passwd.specs.declared.run.edits.Step.{Step}
 use Rattle.argon2_passwd.specs.declared.run.edits.Step.TheVariants as step
-pub use Rattle.argon2_passwd.specs.Failures.{BoundError, Failure, FileError, IsMemory, IsOfBound, IsOfFile, IsOfLines, IsOfWrite, LineError, Params, is_refusal, status_by, status_of}
+pub use Rattle.argon2_passwd.specs.Failures.{BoundError, denial_line, Failure, FileError, IsDenialOf, IsMemory, IsOfBound, IsOfFile, IsOfLines, IsOfWrite, LineError, Params, is_refusal, status_by, status_of}
 use Rattle.argon2_passwd.specs.Failures.{File, Line as AtLine, Name, Passed, Refused, Scheme}
 pub use Rattle.argon2_passwd.specs.Lines.{AreSaid, Bor, Flaw, IsOfFirst, Line, Phc, PhcText, StoredText, entries_in, entry_or_flaw, first_of_each, flaws_from, get, scheme_of, unless_known}
 use Rattle.argon2_passwd.specs.Lines.{Taken, has_control}
+use Rattle.argon2_passwd.specs.declared.outside.News.{News}
 pub use Rattle.argon2_passwd.specs.News.{news_of, news_text}
 
 -- the bytes of a stream, if these are known
@@ -305,3 +306,10 @@ module _ {S : Type 0} (g : Ghosts S) (Has : List ℕ → Texts → Type 0) (Give
       × IsSecret Holds options.old_secret_file prior
       × ((Closed [] × ¬ (IsPolicy (policy_by options secret prior)) × IsErrAnd result (λ failure. failure ≡ Params) × Keeps old new)
       ⊎ IsServed (policy_by options secret prior) what result input old new Closed))
+
+-- What standard error gets: a front of the news of the file. A refusal that does not tell whether the name is there adds a
+-- front of one line, the same for each of them.
+abbrev pub IsTold : Options → Action → News → Outcome → Known → Known → Type 0
+IsTold options what news (Ok _) old new = (n : ℕ) × Appends old new (take n (news_of what news))
+IsTold options what news (Err failure) old new = options.explain ≡ false → IsDenialOf what failure
+    → (mid : Known) × (n : ℕ) × Appends old mid (take n (news_of what news)) × AppendsFront mid new denial_line

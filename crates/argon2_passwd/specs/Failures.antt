@@ -1,8 +1,12 @@
 -- Why the program fails.
-use Rattle.std.specs.Prelude.{◌≡◌, ◌≢◌, ⊤, ℕ, if◌then◌else◌, Result, Ok, Err}
+use Rattle.std.specs.Prelude.{◌≡◌, ◌≢◌, ◌⊎◌, ⊤, ℕ, List, codes, if◌then◌else◌, Result, Ok, Err}
 use Rattle.argon2_base.specs.declared.error.password_hash.Error.TheVariants.{OutOfMemory, PasswordInvalid}
 pub use Rattle.argon2.specs.declared.bound.BoundError.{BoundError}
 use Rattle.argon2.specs.declared.bound.BoundError.TheVariants as bound
+use Rattle.argon2_passwd.specs.declared.command.Action.{Action}
+use Rattle.argon2_passwd.specs.declared.command.Action.TheVariants.{OnFile}
+use Rattle.argon2_passwd.specs.declared.command.Edit.TheVariants.{Change}
+use Rattle.argon2_passwd.specs.declared.command.Task.TheVariants.{Verify, Edit as Edits}
 pub use Rattle.argon2_passwd.specs.declared.failure.Failure.{Failure}
 pub use Rattle.argon2_passwd.specs.declared.failure.Failure.TheVariants.{NoPassword, LongPassword, Name, Params, Refused, Scheme, Line, Passed, Unopened, File, BrokenLine, Output, Unread, Memory}
 pub use Rattle.argon2_store.specs.Errors.{is_refusal}
@@ -65,3 +69,19 @@ IsOfLines (lines.Write error) failure = IsOfWrite failure
 abbrev pub IsOfOpen : OpenError → Failure → Type 0
 IsOfOpen no.OutOfMemory failure = IsMemory failure
 IsOfOpen error failure = failure ≡ Unopened error
+
+-- ---- refusals that do not tell whether the name is there
+
+-- the name is unknown, or its text refuses the password or is locked
+abbrev pub IsDenial : Failure → Type 0
+IsDenial failure = (failure ≡ File file.NameUnknown) ⊎ (failure ≡ Refused (bound.Refused PasswordInvalid))
+
+-- they refuse a login, or a change of a password
+abbrev pub IsDenialOf : Action → Failure → Type 0
+IsDenialOf (OnFile path (Verify name)) failure = IsDenial failure
+IsDenialOf (OnFile path (Edits Change name)) failure = IsDenial failure
+IsDenialOf _ failure = ⊥
+
+-- the line that stands for each of them
+abbrev pub denial_line : List ℕ
+denial_line = codes "argon2-passwd: name or password is invalid\n"

@@ -1,13 +1,15 @@
 //! The program over any world outside it and any streams.
 
-ghost use Rattle.std.specs.Prelude.{◌≡◌, ◌≢◌, ◌≤◌, ◌⊎◌, ◌++◌, ◌∷◌, [], ℕ, vec_items, IfErr, IfOk, string_bytes, take};
-ghost use Rattle.argon2_passwd.specs.Answers.{Appends, IsAnswered, IsEnded, IsNewText, IsPolicy, IsSalt, IsSecret, IsUnread, Outcome, Params, Says, news_of, news_text, next_salt, option_map, phc_of, policy_by, policy_value, status_by, status_of};
+ghost use Rattle.std.specs.Prelude.{◌≡◌, ◌≢◌, ◌≤◌, ◌⊎◌, ◌++◌, ◌∷◌, [], ℕ, vec_items, IfErr, IfOk, IsTrue, false, string_bytes, take};
+ghost use Rattle.argon2_passwd.specs.Answers.{Appends, AppendsFront, IsAnswered, IsDenialOf, IsEnded, IsNewText, IsPolicy, IsSalt, IsSecret, IsTold, IsUnread, Outcome, Params, Says, denial_line, news_of, news_text, next_salt, option_map, phc_of, policy_by, policy_value, status_by, status_of};
 
 use crate::command::{Action, Command, Edit, Task};
 use crate::failure::{Failure, Flaw};
 use crate::options::Options;
 use crate::outside::{News, Outside};
 use crate::passwords::password;
+use argon2::bound::BoundError;
+use argon2::password_hash::Error;
 use argon2::{Algorithm, Argon2, PasswordHash, Version};
 use argon2_policy::Policy;
 use argon2_programs::write_line;
@@ -32,8 +34,9 @@ pub const PROGRAM: &str = "argon2-passwd";
 /// random bytes or a request for memory failed. Status 4: the text that was to accept the password is outside the
 /// grammar, has no valid parameters, is above the bound or of another scheme; or an import has passed over lines.
 /// Unless it is 0, the failure's text is written to `errors`, and nothing to `output`; only a write of it that fails may
-/// leave a front of the answer, and a list what could be read. If `errors` can't be written, the status stays. Whatever
-/// the status, the command is all that was done with a file.
+/// leave a front of the answer, and a list what could be read. If `errors` can't be written, the status stays. Unless
+/// `explain` is set, a login that is refused has the same text for an unknown name, a locked one and a wrong password.
+/// Whatever the status, the command is all that was done with a file.
 pub fn run<P: Outside, R: BufRead, W: Write, E: Write>(
     alloc: Global,
     command: Command<'_>,
@@ -47,9 +50,9 @@ pub fn run<P: Outside, R: BufRead, W: Write, E: Write>(
     ensures ended { (ended : Outcome) × (result ≡ status_by ended)
         × IsEnded P.File.Store P.keeps P.gives P.holds command.entry.options
         command.entry.action ended (R.remaining input.old) (W.contents output.old)
-        (W.contents output.new) (P.closed outside.new) }
-    ensures told { result ≡ 0 → (n : ℕ) × Appends (E.contents errors.old) (E.contents errors.new)
-        (take n (news_of command.entry.action (P.news outside.new))) }
+        (W.contents output.new) (P.closed outside.new)
+        × IsTold command.entry.options command.entry.action (P.news outside.new) ended
+        (E.contents errors.old) (E.contents errors.new) }
 {
     let answered = answer(alloc, &command, outside, input, output);
     tell(alloc, errors, command.action, outside.news());
@@ -92,13 +95,15 @@ fn news_text(alloc: Global, path: &str, news: News) -> Result<String, AllocError
 fn fail<E: Write>(errors: &mut E, command: &Command<'_>, failure: &Failure) -> u8
     ensures value { result ≡ status_of failure.now }
     ensures some { (1 ≤ result) × (result ≤ 4) }
+    ensures denied { command.now.options.explain ≡ false → IsDenialOf command.now.action failure.now →
+        AppendsFront (E.contents errors.old) (E.contents errors.new) denial_line }
 {
     let _ = if matches!(failure, Failure::Unread) {
         Ok(())
     } else if let Failure::Passed(lines) = failure {
         write_passed(errors, lines.as_slice())
     } else if is_hidden(command, failure) {
-        writeln!(errors, "{PROGRAM}: name or password is invalid")
+        write_line(errors, &[b"argon2-passwd: name or password is invalid"])
     } else {
         match subject(command, failure) {
             Some(subject) => writeln!(errors, "{PROGRAM}: {subject}: {failure}"),
@@ -116,17 +121,20 @@ fn write_passed<E: Write>(errors: &mut E, lines: &[(usize, Flaw)]) -> io::Result
     Ok(())
 }
 
-// Whether the failure is one of a login, which does not say if the name or the password is why.
-fn is_hidden(command: &Command<'_>, failure: &Failure) -> bool {
+// Whether the failure is not to tell if the name is there.
+fn is_hidden(command: &Command<'_>, failure: &Failure) -> bool
+    ensures { command.now.options.explain ≡ false → IsDenialOf command.now.action failure.now → IsTrue result }
+{
     let logs_in = matches!(
         command.action,
         Action::OnFile(_, Task::Verify(_) | Task::Edit(Edit::Change, _))
     );
-    let refuses = matches!(
+    let is_denied = matches!(
         failure,
-        Failure::Refused(_) | Failure::File(FileError::NameUnknown)
-    ) && failure.status() == 1;
-    logs_in && refuses && !command.options.explain
+        Failure::File(FileError::NameUnknown)
+            | Failure::Refused(BoundError::Refused(Error::PasswordInvalid))
+    );
+    logs_in && is_denied && !command.options.explain
 }
 
 // What a failure is of: the path of a file that fails, or the name or the word of a text that no password opens.
