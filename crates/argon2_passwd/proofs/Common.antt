@@ -16,12 +16,12 @@ pub use Rattle.argon2_rows.specs.Locks.{behind_lock, without_lock}
 pub use Rattle.argon2_store.specs.AccountFile.{HasCause, HasFailedBy, IsClosed, Reads}
 pub use Rattle.argon2_store.specs.declared.error.FileError.TheVariants.{Damaged}
 pub use Rattle.argon2_passwd.specs.Answers.{AccountFile, AddsEntries, additions, answer_without_text, Appends, AreSaid, behind, Bor, database_of, entries_in, entry_of, entry_or_flaw}
-pub use Rattle.argon2_passwd.specs.Answers.{FileError, first_of_each, Flaw, flaws_from, get, Ghosts, HasNames, is_locked, IsHonest, IsLooked, IsOfFirst, IsOpened, IsOpenFor, IsUnfound}
-pub use Rattle.argon2_passwd.specs.Answers.{Keeps, Line, Looks, NameTaken, next_salt, OfPassword, option_map, password_of, phc_of, scheme_of, Serves, Stays, StoredText, Texts}
-pub use Rattle.argon2_passwd.specs.Answers.{unless_known}
-pub use Rattle.argon2_passwd.specs.Lines.{has_name, IsEntryOrFlaw, IsTaken, line_has_name, new_line, parts_now, unmarked, with_name}
+pub use Rattle.argon2_passwd.specs.Answers.{FileError, Flaw, flaws_from, get, Ghosts, has_name, HasNames, is_locked, is_named, IsHonest, IsLooked, IsOfFirst, IsOpened, IsOpenFor, IsUnfound}
+pub use Rattle.argon2_passwd.specs.Answers.{Keeps, Line, line_has_name, Looks, NameTaken, new_line, new_lines, next_salt, of_file, OfPassword, option_map, password_of, phc_of, scheme_of}
+pub use Rattle.argon2_passwd.specs.Answers.{Serves, Stays, StoredText, Texts}
+pub use Rattle.argon2_passwd.specs.Lines.{IsEntryOrFlaw, IsTaken, parts_now, unmarked}
 pub use Rattle.argon2_passwd.specs.Passwords.{line_of}
-use Rattle.argon2_passwd.specs.Answers.{BoundError, Failure, is_refusal, IsDenied, IsMemory, IsOfFile, Phc, status_of}
+use Rattle.argon2_passwd.specs.Answers.{BoundError, Failure, is_refusal, IsDenied, Phc, status_of}
 
 pub keeps_same : (known : Option (List ℕ)) → Keeps known known
 keeps_same known = grind arith
@@ -50,13 +50,9 @@ pub said_of : (input : Option (List ℕ)) (any_text : Bool) (read : List ℕ) (s
 said_of input any_text read said same are =
     IfSome_then input same (λ known all. subst (λ bytes. AreSaid any_text bytes said) all are)
 
--- out of memory is no refusal
-pub memory_is : (f : Failure) → IsMemory f → status_of f ≡ 3
-memory_is f memory = grind arith
-
--- nor is an error of the file
-pub no_refusal : (e : FileError) (f : Failure) → IsOfFile e f → is_refusal e ≡ false → status_of f ≡ 3
-no_refusal e f is file = grind arith
+-- an error of the file is no refusal
+pub no_refusal : (e : FileError) → is_refusal e ≡ false → status_of (of_file e) ≡ 3
+no_refusal e file = grind arith
 
 denied_then : (Why : Phc → BoundError → Type 0) (o : Option (List ℕ)) (f : Failure) → IsDenied (λ v e. ⊥) o f → IsDenied Why o f
 denied_then Why o f is = grind arith

@@ -2,6 +2,7 @@
 use Rattle.std.specs.Prelude.{◌≡◌, ◌≢◌, ◌⊎◌, ℕ, ◌||◌, false, Bool, ◌+◌, IsTrue, List, [], ◌∷◌, ◌++◌, Option, Some, None, IfSome, Result, Ok, Err, IfOk, IsErrAnd, is_ok, if◌then◌else◌, IsSomeAnd, map, take, unwrap_or}
 use Rattle.std.specs.Io.BufRead.{drop_through}
 pub use Rattle.std.specs.Option.{option_map}
+use Rattle.std.specs.Result.{result_map_both}
 pub use Rattle.std.specs.Io.KnownBytes.{Appends, Keeps}
 pub use Rattle.argon2_base.specs.PhcFields.{phc_of}
 use Rattle.argon2_base.specs.PhcText.{phc_text}
@@ -16,7 +17,7 @@ use Rattle.argon2.specs.declared.login.answers.Accepted.TheVariants.{Kept, Rehas
 pub use Rattle.argon2_policy.specs.Policy.{Admits, ChangeRefusal, Denial, IsPolicy, LogsIn, Policy, policy_value}
 pub use Rattle.argon2_programs.specs.Lines.{AppendsFront}
 pub use Rattle.argon2_rows.specs.Locks.{is_locked}
-pub use Rattle.argon2_rows.specs.Names.{IsFirstTaken, Texts, entry_of}
+pub use Rattle.argon2_rows.specs.Names.{IsFirstTaken, Texts, entry_of, get}
 use Rattle.argon2_rows.specs.Rows.{breaks_line}
 pub use Rattle.argon2_rows.specs.Table.{IsHonest}
 use Rattle.argon2_rows.specs.declared.view.View.TheVariants as views
@@ -37,9 +38,9 @@ pub use Rattle.argon2_passwd.specs.Passwords.{IsUnread, password_of}
 pub use Rattle.argon2_passwd.specs.Salts.{IsSalt, next_salt}
 use Rattle.argon2_passwd.specs.declared.run.edits.Step.{Step}
 use Rattle.argon2_passwd.specs.declared.run.edits.Step.TheVariants as step
-pub use Rattle.argon2_passwd.specs.Failures.{BoundError, denial_line, Failure, FileError, IsDenialOf, IsMemory, IsOfBound, IsOfFile, IsOfLines, IsOfWrite, LineError, Params, is_refusal, status_by, status_of}
+pub use Rattle.argon2_passwd.specs.Failures.{BoundError, denial_line, Failure, FileError, IsDenialOf, IsOfWrite, LineError, Params, is_refusal, of_bound, of_file, of_lines, status_by, status_of}
 use Rattle.argon2_passwd.specs.Failures.{File, Line as AtLine, Name, Passed, Refused, Scheme}
-pub use Rattle.argon2_passwd.specs.Lines.{AreSaid, Bor, Flaw, IsOfFirst, Line, Phc, PhcText, StoredText, entries_in, entry_or_flaw, first_of_each, flaws_from, get, scheme_of, unless_known}
+pub use Rattle.argon2_passwd.specs.Lines.{AreSaid, Bor, Flaw, IsOfFirst, Line, Phc, PhcText, StoredText, entries_in, entry_or_flaw, flaws_from, has_name, is_named, line_has_name, new_line, new_lines, scheme_of}
 use Rattle.argon2_passwd.specs.Lines.{Taken, has_control}
 use Rattle.argon2_passwd.specs.declared.outside.News.{News}
 pub use Rattle.argon2_passwd.specs.News.{news_of, news_text}
@@ -84,7 +85,7 @@ IsShut text failure = (IsTrue (is_locked text) × (failure ≡ Refused (bound.Re
 abbrev pub IsDenied : (Phc → BoundError → Type 0) → Option (List ℕ) → Failure → Type 0
 IsDenied Why None failure = failure ≡ File NameUnknown
 IsDenied Why (Some text) failure = IsShut text failure
-    ⊎ ((v : Phc) × (e : BoundError) × SaysHash text v × Why v e × IsOfBound e failure)
+    ⊎ ((v : Phc) × (e : BoundError) × SaysHash text v × Why v e × (failure ≡ of_bound e))
 
 -- the secret of the file at a path, if there is one
 abbrev pub IsSecret : (List ℕ → List ℕ → Type 0) → Option (Bor (List ℕ)) → Option (List ℕ) → Type 0
@@ -119,7 +120,7 @@ module _ {S : Type 0} {g : Ghosts S} where
   abbrev pub FailsToAdd : FileError → List (List ℕ × List ℕ) → Failure → AccountFile S g → AccountFile S g → Type 0
   FailsToAdd NameTaken es failure before after = (names : Texts) → HasNames before names → IsHonest g (database_of after)
       → (k : ℕ) × (failure ≡ AtLine (k + 1) Taken) × IsFirstTaken names es k
-  FailsToAdd e es failure before after = IsOfFile e failure
+  FailsToAdd e es failure before after = failure ≡ of_file e
 
   -- how an addition of the entries ended: all are added, or none
   abbrev pub AddsLines : Outcome → List (List ℕ × List ℕ) → AccountFile S g → AccountFile S g → Type 0
@@ -132,28 +133,32 @@ module _ {S : Type 0} {g : Ghosts S} where
   Looks error before after = ((error ≡ None) × (after ≡ before))
       ⊎ ((names : Texts) → HasNames before names → Stays error names before after)
 
-  -- Names were looked up, and entries of lines were to be added together, with this answer: those whose names the file
-  -- did not have. The other lines have these flaws.
+  -- Names were looked up, and entries of lines were to be added together, with this answer: those whose names neither the
+  -- file nor an earlier line has. The other lines have these flaws.
   abbrev pub AddsEntries : Result (Unit {0}) FileError → List Line → List (ℕ × Flaw) → AccountFile S g → AccountFile S g
       → Type 0
   AddsEntries answer ls passed before after = (mid : AccountFile S g) × (new : List Line)
       × Looks None before mid × Serves (additions (entries_in new)) answer mid after × (passed ≡ flaws_from 1 new)
       × ((names : Texts) → HasNames before names → IsHonest g (database_of after)
-      → new ≡ map (unless_known names) ls)
+      → new ≡ new_lines (is_named names) ls)
 
   -- the entries were added, and the failure has the numbers of the other lines, of which there are some
   abbrev pub PassesOver : Failure → List Line → AccountFile S g → AccountFile S g → Type 0
   PassesOver (Passed passed) ls before after = (passed.items ≢ []) × AddsEntries (Ok tt) ls passed.items before after
   PassesOver _ ls before after = ⊥
 
-  -- How an addition of their entries ended. Before a failure that is no refusal, names were looked up until a look-up failed or
-  -- memory ran out, or the entries were to be added. If a name that was looked up is taken, the file is damaged.
+  -- names were looked up until a look-up failed or memory ran out
+  abbrev pub FailsToLook : Failure → AccountFile S g → AccountFile S g → Type 0
+  FailsToLook failure before after =
+      (error : Option FileError) × Looks error before after × (failure ≡ of_file (unwrap_or error OutOfMemory))
+
+  -- How an addition of their entries ended. Before a failure that is no refusal, a look-up failed, or the entries were to be
+  -- added. If a name that was looked up is taken, the file is damaged.
   abbrev pub AddsOthers : Outcome → List Line → AccountFile S g → AccountFile S g → Type 0
   AddsOthers (Ok _) ls before after = AddsEntries (Ok tt) ls [] before after
   AddsOthers (Err failure) ls before after = PassesOver failure ls before after ⊎ ((status_of failure ≡ 3)
-      × (((error : Option FileError) × Looks error before after × IsOfFile (unwrap_or error OutOfMemory) failure)
-      ⊎ ((e : FileError) × (passed : List (ℕ × Flaw)) × AddsEntries (Err e) ls passed before after
-      × IsOfFile (if is_refusal e then Damaged else e) failure)))
+      × (FailsToLook failure before after ⊎ ((e : FileError) × (passed : List (ℕ × Flaw)) × AddsEntries (Err e) ls passed before after
+      × (failure ≡ of_file (if is_refusal e then Damaged else e)))))
 
   -- a file at a path that was opened, with its names
   abbrev pub IsOpened : (List ℕ → Texts → Type 0) → List ℕ → AccountFile S g → Type 0
@@ -164,11 +169,9 @@ abbrev pub answer_without_text : Accepted → Accepted
 answer_without_text Rehashed = Kept
 answer_without_text did = did
 
--- a result of the program tells how a call on a file ended
-abbrev pub TellsOf : {E X : Type 0} → (E → Failure → Type 0) → Result X E → Result X Failure → Type 0
-TellsOf IsOf (Ok x) (Ok y) = y ≡ x
-TellsOf IsOf (Err e) (Err failure) = IsOf e failure
-TellsOf IsOf _ _ = ⊥
+-- how the program ends after a call with this answer, each of whose errors it calls so
+abbrev pub told_by : {E : Type 0} → (E → Failure) → Result (Unit {0}) E → Outcome
+told_by of done = result_map_both (λ x. x) of done
 
 -- a line was written, or a front of it if a write fails
 abbrev pub Says : List ℕ → Outcome → Known → Known → Type 0
@@ -228,7 +231,7 @@ module _ {S : Type 0} (g : Ghosts S) (Has : List ℕ → Texts → Type 0) where
   -- all that was done there is one call, and this result tells of its answer
   abbrev pub IsApplied : List ℕ → FileEdit → (List S → Type 0) → Outcome → Type 0
   IsApplied path change Closed result =
-      (done : Result (Unit {0}) FileError) × TellsOf IsOfFile done result × IsDone path (Serves (change ∷ []) done) Closed
+      (done : Result (Unit {0}) FileError) × (result ≡ told_by of_file done) × IsDone path (Serves (change ∷ []) done) Closed
 
   -- the text of a name was read in the file at a path, which was closed with this store
   abbrev pub IsLooked : List ℕ → List ℕ → Result (Option (List ℕ)) FileError → (S → Type 0) → Type 0
@@ -240,7 +243,7 @@ module _ {S : Type 0} (g : Ghosts S) (Has : List ℕ → Texts → Type 0) where
   abbrev pub IsUnfound : (Phc → BoundError → Type 0) → List ℕ → List ℕ → (List S → Type 0) → Failure → Type 0
   IsUnfound Why path name Closed failure =
       ((o : Option (List ℕ)) × IsDenied Why o failure × IsLooked path name (Ok o) (λ read. Closed (read ∷ [])))
-      ⊎ ((e : FileError) × IsOfFile e failure × IsLooked path name (Err e) (λ read. Closed (read ∷ [])))
+      ⊎ ((e : FileError) × (failure ≡ of_file e) × IsLooked path name (Err e) (λ read. Closed (read ∷ [])))
 
 module _ {S : Type 0} (g : Ghosts S) (Has : List ℕ → Texts → Type 0) (Gives : List ℕ → Type 0) where
   -- A login with the password was all that was done with the file at a path, with this result. If the text accepts the
@@ -279,7 +282,7 @@ module _ {S : Type 0} (g : Ghosts S) (Has : List ℕ → Texts → Type 0) (Give
   IsUsed policy (OnFile path (Edits act name)) result input old new Closed =
       Keeps old new × IsChange policy path.now act name.now input Closed result
   IsUsed policy (OnFile path (Show view)) result input old new Closed =
-      (done : Result (Unit {0}) LineError) × TellsOf IsOfLines done result
+      (done : Result (Unit {0}) LineError) × (result ≡ told_by of_lines done)
       × IsDone g Has path.now (λ before after. (names : Texts) → HasNames before names
       → Stays (error_of (read_by done)) names before after
       × (IsHonest g (database_of after) → WritesLines view names old new done)) Closed
@@ -288,7 +291,7 @@ module _ {S : Type 0} (g : Ghosts S) (Has : List ℕ → Texts → Type 0) (Give
       (flaws_from 1 said ≡ []) × IsDone g Has path.now (AddsLines result (entries_in said)) Closed)
   IsUsed policy (OnFile path (ImportOthers any_text)) result input old new Closed =
       Keeps old new × OfLines any_text input (λ said.
-      IsDone g Has path.now (AddsOthers result (first_of_each [] said)) Closed)
+      IsDone g Has path.now (AddsOthers result said) Closed)
   IsUsed policy _ result input old new Closed = ⊥
 
   -- how a command ended: its file was used, or no file was opened

@@ -1,5 +1,9 @@
 -- Why the program fails.
-use Rattle.std.specs.Prelude.{◌≡◌, ◌≢◌, ◌⊎◌, ⊤, ℕ, List, codes, if◌then◌else◌, Result, Ok, Err}
+use Rattle.std.specs.Prelude.{◌≡◌, ◌⊎◌, ℕ, List, codes, if◌then◌else◌, Result, Ok, Err}
+use Rattle.std.specs.IoError.{error_kind}
+use Rattle.std.specs.declared.io.Error.{Error as IoError}
+use Rattle.std.specs.declared.io.ErrorKind.{ErrorKind}
+use Rattle.std.specs.declared.io.ErrorKind.TheVariants.{BrokenPipe}
 use Rattle.argon2_base.specs.declared.error.password_hash.Error.TheVariants.{OutOfMemory, PasswordInvalid}
 pub use Rattle.argon2.specs.declared.bound.BoundError.{BoundError}
 use Rattle.argon2.specs.declared.bound.BoundError.TheVariants as bound
@@ -37,38 +41,38 @@ abbrev pub status_by : Result (Unit {0}) Failure → ℕ
 status_by (Ok _) = 0
 status_by (Err failure) = status_of failure
 
--- a request for memory was refused
-abbrev pub IsMemory : Failure → Type 0
-IsMemory (Memory refused) = ⊤
-IsMemory _ = ⊥
+-- the failure by a write with an error of this kind: output has no reader, or can't be written
+abbrev pub of_kind : ErrorKind → Failure
+of_kind BrokenPipe = Unread
+of_kind _ = Output
+
+abbrev pub of_write : IoError → Failure
+of_write error = of_kind (error_kind error)
 
 -- output can't be written, or has no reader
 abbrev pub IsOfWrite : Failure → Type 0
-IsOfWrite Output = ⊤
-IsOfWrite Unread = ⊤
-IsOfWrite _ = ⊥
+IsOfWrite failure = (error : IoError) × (failure ≡ of_write error)
 
 -- the failure by a refusal of the policy: out of memory is reported as that
-abbrev pub IsOfBound : BoundError → Failure → Type 0
-IsOfBound refusal (Memory refused) = refusal ≡ bound.Refused OutOfMemory
-IsOfBound refusal (Refused error) = (error ≡ refusal) × (refusal ≢ bound.Refused OutOfMemory)
-IsOfBound refusal _ = ⊥
+abbrev pub of_bound : BoundError → Failure
+of_bound (bound.Refused OutOfMemory) = Memory
+of_bound error = Refused error
 
 -- the failure by a call on a file
-abbrev pub IsOfFile : FileError → Failure → Type 0
-IsOfFile file.OutOfMemory failure = IsMemory failure
-IsOfFile error failure = failure ≡ File error
+abbrev pub of_file : FileError → Failure
+of_file file.OutOfMemory = Memory
+of_file error = File error
 
 -- the failure by lines that are not all written
-abbrev pub IsOfLines : LineError → Failure → Type 0
-IsOfLines (lines.File error) failure = IsOfFile error failure
-IsOfLines lines.Breaks failure = failure ≡ BrokenLine
-IsOfLines (lines.Write error) failure = IsOfWrite failure
+abbrev pub of_lines : LineError → Failure
+of_lines (lines.File error) = of_file error
+of_lines lines.Breaks = BrokenLine
+of_lines (lines.Write error) = of_write error
 
 -- the failure by an open
-abbrev pub IsOfOpen : OpenError → Failure → Type 0
-IsOfOpen no.OutOfMemory failure = IsMemory failure
-IsOfOpen error failure = failure ≡ Unopened error
+abbrev pub of_open : OpenError → Failure
+of_open no.OutOfMemory = Memory
+of_open error = Unopened error
 
 -- ---- refusals that do not tell whether the name is there
 

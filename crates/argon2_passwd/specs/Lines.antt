@@ -1,5 +1,5 @@
 -- The lines of an import: names with texts.
-use Rattle.std.specs.Prelude.{◌≡◌, ◌⊎◌, ℕ, suc, ◌==◌, true, false, Bool, IsOk, IsTrue, List, [], ◌∷◌, if◌then◌else◌, Result, Ok, Err}
+use Rattle.std.specs.Prelude.{◌≡◌, ◌⊎◌, ◌||◌, ℕ, suc, ◌==◌, true, false, Bool, IsOk, IsTrue, List, [], ◌∷◌, if◌then◌else◌, Result, Ok, Err}
 pub use Rattle.std.specs.Borrow.{Bor}
 use Rattle.std.specs.List.{AllZip, after_first, before_first, list_any}
 use Rattle.std.specs.Option.{is_some}
@@ -9,7 +9,7 @@ use Rattle.std.specs.Cmp.Lexicographic.{slice_cmp}
 use Rattle.std.specs.Ordering.{nat_cmp}
 use Rattle.std.specs.Str.{bytes_eq, chars, is_utf8}
 use Rattle.std.specs.Str.Lines.{lines}
-pub use Rattle.std.specs.FinMap.{get}
+use Rattle.std.specs.FinMap.{get}
 pub use Rattle.argon2_base.specs.PhcText.{Phc, PhcText}
 use Rattle.argon2.specs.StoredTexts.{shown_settings}
 use Rattle.argon2_programs.specs.Prefixes.{after_any, without_prefix}
@@ -89,29 +89,24 @@ abbrev pub new_line : (List ℕ → Bool) → Line → Line
 new_line is_taken (Ok e) = if is_taken e.0 then Err Taken else Ok e
 new_line is_taken (Err why) = Err why
 
--- these names with that of a line
-abbrev pub with_name : Line → List (List ℕ) → List (List ℕ)
-with_name (Ok e) names = e.0 ∷ names
-with_name (Err why) names = names
-
 -- the line has this name
 abbrev pub line_has_name : Line → List ℕ → Bool
 line_has_name (Ok e) name = bytes_eq e.0 name
 line_has_name (Err why) name = false
 
--- the lines, of which only the first with a name has it, and none has one of these
-abbrev pub first_of_each : List (List ℕ) → List Line → List Line
-first_of_each names [] = []
-first_of_each names (line ∷ ls) =
-    new_line (λ name. list_any (λ other. bytes_eq other name) names) line ∷ first_of_each (with_name line names) ls
+-- the lines, unless their names are taken, also by an earlier line
+abbrev pub new_lines : (List ℕ → Bool) → List Line → List Line
+new_lines is_taken [] = []
+new_lines is_taken (line ∷ ls) =
+    new_line is_taken line ∷ new_lines (λ name. line_has_name line name || is_taken name) ls
 
 -- the set has this name
 abbrev pub has_name : BTreeSet (Bor (List ℕ)) → List ℕ → Bool
 has_name names name = contains_by (λ k. slice_cmp nat_cmp name k.now) names
 
--- the line, unless the file with these names has its name
-abbrev pub unless_known : Texts → Line → Line
-unless_known names line = new_line (λ name. is_some (get names name)) line
+-- a file with these names has this one
+abbrev pub is_named : Texts → List ℕ → Bool
+is_named names name = is_some (get names name)
 
 -- the entries of lines
 abbrev pub entries_in : List Line → List (List ℕ × List ℕ)

@@ -2,7 +2,7 @@
 
 ghost use Rattle.std.specs.Prelude.{◌≡◌, ◌≢◌};
 ghost use Rattle.std.specs.IoError.{error_kind};
-ghost use Rattle.argon2_passwd.specs.Failures.{IsMemory, IsOfBound, IsOfFile, IsOfLines, IsOfOpen, IsOfWrite, status_of};
+ghost use Rattle.argon2_passwd.specs.Failures.{Memory, of_bound, of_file, of_lines, of_open, of_write, status_of};
 
 use argon2::bound::BoundError;
 use argon2::password_hash;
@@ -87,7 +87,7 @@ pub enum Failure {
     Unread,
     /// A request for memory was refused.
     #[error("out of memory")]
-    Memory(AllocError),
+    Memory,
 }
 
 impl Failure {
@@ -113,36 +113,36 @@ impl Failure {
 
 /// The failure of a read from standard input; out of memory is reported as that.
 pub fn of_reading(error: &io::Error) -> Failure
-    ensures memory { error_kind error.now ≡ ErrorKind.OutOfMemory → IsMemory result }
+    ensures memory { error_kind error.now ≡ ErrorKind.OutOfMemory → result ≡ Failure.Memory }
     ensures input { error_kind error.now ≢ ErrorKind.OutOfMemory → result ≡ Failure.Input }
     ensures trouble { status_of result ≡ 3 }
 {
     if error.kind() == ErrorKind::OutOfMemory {
-        Failure::Memory(AllocError)
+        Failure::Memory
     } else {
         Failure::Input
     }
 }
 
 impl From<AllocError> for Failure {
-    ghost from_gives = { λ _. IsMemory };
+    ghost from_gives = { λ _ failure. failure ≡ Memory };
 
-    fn from(refused: AllocError) -> Failure {
-        Failure::Memory(refused)
+    fn from(_: AllocError) -> Failure {
+        Failure::Memory
     }
 }
 
 impl<T: Drop> From<AllocFailed<T>> for Failure {
-    ghost from_gives = { λ _. IsMemory };
+    ghost from_gives = { λ _ failure. failure ≡ Memory };
 
     fn from(_refused: AllocFailed<T>) -> Failure {
-        Failure::Memory(AllocError)
+        Failure::Memory
     }
 }
 
 /// The failure of a write.
 impl From<io::Error> for Failure {
-    ghost from_gives = { λ _. IsOfWrite };
+    ghost from_gives = { λ error failure. failure ≡ of_write error };
 
     fn from(error: io::Error) -> Failure {
         match error.kind() {
@@ -154,11 +154,11 @@ impl From<io::Error> for Failure {
 
 /// The failure of a call of the policy. Out of memory is reported as that.
 impl From<BoundError> for Failure {
-    ghost from_gives = { IsOfBound };
+    ghost from_gives = { λ error failure. failure ≡ of_bound error };
 
     fn from(error: BoundError) -> Failure {
         match error {
-            BoundError::Refused(password_hash::Error::OutOfMemory) => Failure::Memory(AllocError),
+            BoundError::Refused(password_hash::Error::OutOfMemory) => Failure::Memory,
             error => Failure::Refused(error),
         }
     }
@@ -168,7 +168,7 @@ impl From<BoundError> for Failure {
 impl From<password_hash::Error> for Failure {
     ghost use Rattle.argon2.specs.declared.bound.BoundError.TheVariants.{Refused};
 
-    ghost from_gives = { λ error. IsOfBound (Refused error) };
+    ghost from_gives = { λ error failure. failure ≡ of_bound (Refused error) };
 
     fn from(error: password_hash::Error) -> Failure {
         Failure::from(BoundError::Refused(error))
@@ -177,11 +177,11 @@ impl From<password_hash::Error> for Failure {
 
 /// The failure of a call on a file.
 impl From<FileError> for Failure {
-    ghost from_gives = { IsOfFile };
+    ghost from_gives = { λ error failure. failure ≡ of_file error };
 
     fn from(error: FileError) -> Failure {
         match error {
-            FileError::OutOfMemory => Failure::Memory(AllocError),
+            FileError::OutOfMemory => Failure::Memory,
             error => Failure::File(error),
         }
     }
@@ -189,7 +189,7 @@ impl From<FileError> for Failure {
 
 /// The failure of writing the lines of a file.
 impl From<LineError> for Failure {
-    ghost from_gives = { IsOfLines };
+    ghost from_gives = { λ error failure. failure ≡ of_lines error };
 
     fn from(error: LineError) -> Failure {
         match error {
@@ -202,11 +202,11 @@ impl From<LineError> for Failure {
 
 /// The failure of an open.
 impl From<OpenError> for Failure {
-    ghost from_gives = { IsOfOpen };
+    ghost from_gives = { λ error failure. failure ≡ of_open error };
 
     fn from(error: OpenError) -> Failure {
         match error {
-            OpenError::OutOfMemory => Failure::Memory(AllocError),
+            OpenError::OutOfMemory => Failure::Memory,
             error => Failure::Unopened(error),
         }
     }

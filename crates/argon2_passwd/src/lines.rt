@@ -1,7 +1,7 @@
 //! What each line of an import says.
 
-ghost use Rattle.std.specs.Prelude.{◌≡◌, ◌||◌, ℕ, List, [], IfOk, OnOk, map};
-ghost use Rattle.argon2_passwd.specs.Lines.{AreSaid, IsEntryOrFlaw, entries_in, entry_or_flaw, first_of_each, flaws_from, has_name, line_has_name, new_line};
+ghost use Rattle.std.specs.Prelude.{◌≡◌, IfOk, map};
+ghost use Rattle.argon2_passwd.specs.Lines.{AreSaid, IsEntryOrFlaw, entries_in, entry_or_flaw, flaws_from};
 ghost use Rattle.argon2_rows.specs.Names.{entry_of};
 
 use crate::entries::{has_control, parts, stored};
@@ -10,7 +10,6 @@ use crate::passwords::line_len;
 use argon2_programs::{after_any, bare_str};
 use argon2_rows::StoredText;
 use std::alloc::{AllocError, Global};
-use std::collections::BTreeSet;
 
 /// What a line says: a name and a text that may be added, or why it has none.
 pub type Line<'a> = Result<(&'a str, StoredText<'a>), Flaw>;
@@ -69,39 +68,4 @@ pub fn entries_and_flaws<'a>(
         }
     }
     Ok((entries, flaws))
-}
-
-/// The lines, of which only the first with a name has it.
-///
-/// # Errors
-/// Memory may be refused.
-pub fn first_of_each<'a>(alloc: Global, lines: &[Line<'a>]) -> Result<Vec<Line<'a>>, AllocError>
-    ensures { IfOk result (λ found.
-        map entry_or_flaw found.items ≡ first_of_each [] (map entry_or_flaw lines.now)) }
-{
-    let mut names = BTreeSet::new(alloc);
-    let mut found = Vec::new(alloc);
-    for line in lines {
-        found.push(unless_repeated(&mut names, *line)?)?;
-    }
-    Ok(found)
-}
-
-// The line if its name is none of these, which it joins.
-fn unless_repeated<'a>(
-    names: &mut BTreeSet<&'a str>,
-    line: Line<'a>,
-) -> Result<Line<'a>, AllocError>
-    ensures said { IfOk result (λ new. entry_or_flaw new ≡ new_line (has_name names.old) (entry_or_flaw line.entry)) }
-    ensures names { OnOk result ((name : List ℕ)
-        → has_name names.new name ≡ (line_has_name (entry_or_flaw line.entry) name || has_name names.old name)) }
-{
-    let Ok((name, text)) = line else {
-        return Ok(line);
-    };
-    if names.insert(name)? {
-        Ok(Ok((name, text)))
-    } else {
-        Ok(Err(Flaw::Taken))
-    }
 }

@@ -104,7 +104,7 @@ fn show<P: Outside, W: Write>(
     let mut accounts = open(outside, access)?;
     let written = accounts.write_lines(view, output);
     outside.close(accounts.into_store());
-    Ok(written?)
+    written.map_err(Failure::from)
 }
 
 // Adds all names and texts of the input, each a line, to a file, or none.

@@ -76,7 +76,7 @@ pub(super) fn call<P: Outside>(
     let mut accounts = open(outside, access)?;
     let done = apply(&mut accounts, name, step);
     outside.close(accounts.into_store());
-    Ok(done?)
+    done.map_err(Failure::from)
 }
 
 // Makes the call.

@@ -1,18 +1,19 @@
 //! An import that passes over lines.
 
-ghost use Rattle.std.specs.Prelude.{◌≡◌, [], ℕ, List, None, Err, Ok, Option, Some, false, if◌then◌else◌, IfErr, IfOk, MatchResult, OnOk, map, unwrap_or};
-ghost use Rattle.argon2_passwd.specs.Answers.{AddsOthers, Damaged, HasNames, IsHonest, IsOfFile, IsServed, Looks, OutOfMemory, Serves, Texts, additions, database_of, entry_of, entry_or_flaw, is_refusal, policy_value, status_of, unless_known};
+ghost use Rattle.std.specs.Prelude.{◌≡◌, ◌||◌, [], ℕ, List, None, Err, Ok, Option, if◌then◌else◌, IfErr, IfOk, OnOk, map};
+ghost use Rattle.argon2_passwd.specs.Answers.{AddsOthers, Damaged, FailsToLook, HasNames, IsHonest, IsServed, Looks, Serves, Texts, additions, database_of, entry_of, entry_or_flaw, has_name, is_named, is_refusal, line_has_name, new_line, new_lines, of_file, policy_value, status_of};
 
 use super::accounts::{Access, open};
 use crate::command::{Action, Task};
 use crate::entries::read_all;
 use crate::failure::{Failure, Flaw};
-use crate::lines::{Line, entries_and_flaws, first_of_each, read_lines};
+use crate::lines::{Line, entries_and_flaws, read_lines};
 use crate::outside::Outside;
 use argon2_rows::StoredText;
 use argon2_store::{AccountFile, FileError};
 use sqlite_trees::store::Store;
 use std::alloc::Global;
+use std::collections::BTreeSet;
 use std::io::BufRead;
 
 /// Adds names and texts of the input, each a line, to a file, together, and fails with the lines that it passes over.
@@ -29,15 +30,14 @@ pub(super) fn import_others<P: Outside, R: BufRead>(
         result (R.remaining input.old) output output (P.closed outside.new) }
 {
     let bytes = read_all(alloc, input)?;
-    let said = read_lines(alloc, bytes.as_slice(), any_text)?;
-    let lines = first_of_each(alloc, said.as_slice())?;
+    let lines = read_lines(alloc, bytes.as_slice(), any_text)?;
     let mut accounts = open(outside, access)?;
     let added = add_others(alloc, &mut accounts, lines.as_slice());
     outside.close(accounts.into_store());
     added
 }
 
-// Adds the entries of lines whose names the file does not have.
+// Adds the entries of lines whose names neither the file nor an earlier line has.
 fn add_others<S: Store>(
     alloc: Global,
     accounts: &mut AccountFile<S>,
@@ -55,7 +55,7 @@ fn add_others<S: Store>(
     }
 }
 
-// The lines, unless a file has their names.
+// The lines, unless their names are taken by the file or by an earlier line.
 fn new_lines<'a, S: Store>(
     alloc: Global,
     accounts: &mut AccountFile<S>,
@@ -63,34 +63,40 @@ fn new_lines<'a, S: Store>(
 ) -> Result<Vec<Line<'a>>, Failure>
     ensures looks { OnOk result (Looks None accounts.old accounts.new) }
     ensures fails { IfErr result (λ failure. (status_of failure ≡ 3)
-        × (error : Option FileError) × Looks error accounts.old accounts.new
-        × IsOfFile (unwrap_or error OutOfMemory) failure) }
-    ensures new { (names : Texts) → HasNames accounts.old names → IfOk result (λ found.
+        × FailsToLook failure accounts.old accounts.new) }
+    ensures new { (known : Texts) → HasNames accounts.old known → IfOk result (λ found.
         IsHonest S.Store (database_of accounts.new) → map entry_or_flaw found.items
-        ≡ map (unless_known names) (map entry_or_flaw lines.now)) }
+        ≡ new_lines (is_named known) (map entry_or_flaw lines.now)) }
 {
+    let mut names = BTreeSet::new(alloc);
     let mut found = Vec::new(alloc);
     for line in lines {
-        found.push(unless_known(accounts, *line)?)?;
+        found.push(unless_taken(accounts, &mut names, *line)?)?;
     }
     Ok(found)
 }
 
-// A line, unless a file has its name.
-fn unless_known<'a, S: Store>(
+// The line, unless its name is one of these, which it joins, or the file has it.
+fn unless_taken<'a, S: Store>(
     accounts: &mut AccountFile<S>,
+    names: &mut BTreeSet<&'a str>,
     line: Line<'a>,
-) -> Result<Line<'a>, FileError>
-    ensures looks { MatchResult result (λ new. Looks None accounts.old accounts.new)
-        (λ e. Looks (Some e) accounts.old accounts.new) }
-    ensures new { (names : Texts) → HasNames accounts.old names → IfOk result (λ new.
-        IsHonest S.Store (database_of accounts.new)
-        → entry_or_flaw new ≡ unless_known names (entry_or_flaw line.entry)) }
-    ensures error { IfErr result (λ e. is_refusal e ≡ false) }
+) -> Result<Line<'a>, Failure>
+    ensures looks { OnOk result (Looks None accounts.old accounts.new) }
+    ensures fails { IfErr result (λ failure. (status_of failure ≡ 3)
+        × FailsToLook failure accounts.old accounts.new) }
+    ensures new { (known : Texts) → HasNames accounts.old known → IfOk result (λ new.
+        IsHonest S.Store (database_of accounts.new) → entry_or_flaw new ≡ new_line
+        (λ name. has_name names.old name || is_named known name) (entry_or_flaw line.entry)) }
+    ensures names { OnOk result ((name : List ℕ) → has_name names.new name
+        ≡ (line_has_name (entry_or_flaw line.entry) name || has_name names.old name)) }
 {
     let Ok((name, _)) = line else {
         return Ok(line);
     };
+    if !names.insert(name)? {
+        return Ok(Err(Flaw::Taken));
+    }
     if accounts.text_of(name)?.is_some() {
         Ok(Err(Flaw::Taken))
     } else {
@@ -107,7 +113,7 @@ fn add_new<S: Store>(
         (Serves (additions (map entry_of entries.now)) (Ok tt) accounts.old accounts.new) }
     ensures err { IfErr result (λ failure. (status_of failure ≡ 3) × (e : FileError)
         × Serves (additions (map entry_of entries.now)) (Err e) accounts.old accounts.new
-        × IsOfFile (if is_refusal e then Damaged else e) failure) }
+        × (failure ≡ of_file (if is_refusal e then Damaged else e))) }
 {
     let Err((_, error)) = accounts.add_all(entries) else {
         return Ok(());

@@ -25,9 +25,7 @@ pub fn fresh<G: Rng>(
     ensures err { IfErr result (λ failure. status_of failure ≡ 3) }
 {
     // A password that was read is short enough, so that only memory is refused.
-    policy
-        .hash_password(rng, password)
-        .or(Err(Failure::Memory(AllocError)))
+    policy.hash_password(rng, password).or(Err(Failure::Memory))
 }
 
 /// Checks a password by a text, and returns what was done and the text to keep.

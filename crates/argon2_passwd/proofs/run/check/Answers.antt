@@ -1,4 +1,4 @@
-use Rattle.argon2_passwd.proofs.Common.{err_from_is_err_and, err_is, found_as, inl, inr, keeps_same, memory_is, phc_of, ◌∙◌}
+use Rattle.argon2_passwd.proofs.Common.{err_is, found_as, inl, inr, keeps_same, phc_of, refl, ◌∙◌}
 use Rattle.argon2_passwd.proofs.run.check.Goals as goal
 
 pub returns-in_err-accepted : goal.returns-in_err-accepted
@@ -10,9 +10,7 @@ returns-in_err-accepted g c =
 
 pub returns-in_err-reply : goal.returns-in_err-reply
 returns-in_err-reply g c =
-    let (f, is, of) = err_from_is_err_and c.from_residual-in_err-reply.result c.from_residual-in_err-reply.ensures.1 in
-    let three = memory_is f of in
-    rw is (inr (keeps_same _, (λ isnt. absurd (isnt three))))
+    rw (err_is _ _ c.from_residual-in_err-reply.ensures.1) (inr (keeps_same _, (λ isnt. absurd (isnt refl))))
 
 pub returns : goal.returns
 returns g c =

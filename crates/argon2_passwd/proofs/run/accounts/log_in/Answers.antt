@@ -1,4 +1,4 @@
-use Rattle.argon2_passwd.proofs.Common.{sym, answer_without_text, ap, arith, Err, err_from_is_err_and, err_is, inl, inr, Ok, looked_then, phc_of, refl, Some, unfound_then}
+use Rattle.argon2_passwd.proofs.Common.{sym, answer_without_text, ap, arith, Err, err_is, inl, inr, Ok, looked_then, phc_of, refl, Some, unfound_then}
 use Rattle.argon2_passwd.proofs.run.accounts.log_in.Goals as goal
 
 pub returns-in_err-text : goal.returns-in_err-text
@@ -12,9 +12,8 @@ returns-in_err-text g c =
 pub returns-in_err-accepted : goal.returns-in_err-accepted
 returns-in_err-accepted g c =
     let (says, looked) = c.in_ok-text.ensures in
-    let e = c.in_err-accepted.field-0.0 in
-    let (f, is, of) = err_from_is_err_and c.from_residual-in_err-accepted.result c.from_residual-in_err-accepted.ensures.1 in
-    rw is (inl (inl (inl (Some _, inr (phc_of c.in_ok-text.hash, e, says, c.in_err-accepted.ensures.step, of), looked))))
+    rw (err_is _ _ c.from_residual-in_err-accepted.ensures.1)
+    (inl (inl (inl (Some _, inr (phc_of c.in_ok-text.hash, _, says, c.in_err-accepted.ensures.step, refl), looked))))
 
 pub returns-in_default : goal.returns-in_default
 returns-in_default g c =

@@ -1,5 +1,5 @@
-use Rattle.argon2_passwd.proofs.Common.{[], AccountFile, database_of, Err, err_from_is_err_and, FileError, get, Ghosts, HasNames, IfOk, inl, inr, IsHonest, IsLooked, IsOpened, List, None, Ok, opened_for}
-use Rattle.argon2_passwd.proofs.Common.{Option, option_map, Reads, Result, Some, String, string_bytes, Texts, ℕ, ◌≡◌}
+use Rattle.argon2_passwd.proofs.Common.{[], AccountFile, database_of, Err, err_is, FileError, get, Ghosts, HasNames, IfOk, inl, inr, IsHonest, IsLooked, IsOpened, List, None, Ok, opened_for}
+use Rattle.argon2_passwd.proofs.Common.{Option, option_map, Reads, refl, Result, Some, String, string_bytes, Texts, ℕ, ◌≡◌}
 use Rattle.argon2_passwd.proofs.run.accounts.look.Goals as goal
 
 module _ {S Y : Type 0} {g : Ghosts S} {Has : List ℕ → Texts → Type 0} {path : List ℕ} {Next : S → Type 0} (name : List ℕ)
@@ -18,8 +18,8 @@ pub returns-in_err-text : goal.returns-in_err-text
 returns-in_err-text g c =
     let found = c.text_of-found.ensures in
     let closed = rw c.into_store.ensures at c.close.ensures [] (c.in_ok-accounts.ensures.opened [] c.requires) in
-    let (f, is, of) = err_from_is_err_and c.from_residual-in_err-text.result c.from_residual-in_err-text.ensures.1 in
-    rw is (inl (inr (_, of, unread c.args.name.now _ _ _ c.in_ok-accounts.ensures.ok found.reads found.shows closed _ c.in_err-text.was)))
+    rw (err_is _ _ c.from_residual-in_err-text.ensures.1)
+    (inl (inr (_, refl, unread c.args.name.now _ _ _ c.in_ok-accounts.ensures.ok found.reads found.shows closed _ c.in_err-text.was)))
 
 pub returns-in_default : goal.returns-in_default
 returns-in_default g c =

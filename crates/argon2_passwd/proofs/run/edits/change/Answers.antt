@@ -1,4 +1,4 @@
-use Rattle.argon2_passwd.proofs.Common.{err_from_is_err_and, err_is, inl, inr, keeps_same, of_two, opened_for, Some, unfound_then}
+use Rattle.argon2_passwd.proofs.Common.{err_is, inl, inr, keeps_same, of_two, opened_for, refl, Some, unfound_then}
 use Rattle.argon2_passwd.proofs.run.edits.change.Goals as goal
 
 pub returns-in_err-text : goal.returns-in_err-text
@@ -12,9 +12,9 @@ returns-in_err-text g c output =
 pub returns-in_err-fresh : goal.returns-in_err-fresh
 returns-in_err-fresh g c output =
     let (says, looked) = c.in_ok-text.ensures in
-    let (f, is, of) = err_from_is_err_and c.from_residual-in_err-fresh.result c.from_residual-in_err-fresh.ensures.1 in
-    rw is (inl (of_two _ _ _ c.as_slice-first.ensures.value c.as_slice-second.ensures.value c.in_ok-first.ensures.rest
-    c.in_ok-first.ensures.found c.in_ok-second.ensures.found (inl (inl (Some _, inr (_, _, says, c.in_err-fresh.ensures.made, of), looked)))))
+    rw (err_is _ _ c.from_residual-in_err-fresh.ensures.1)
+    (inl (of_two _ _ _ c.as_slice-first.ensures.value c.as_slice-second.ensures.value c.in_ok-first.ensures.rest
+    c.in_ok-first.ensures.found c.in_ok-second.ensures.found (inl (inl (Some _, inr (_, _, says, c.in_err-fresh.ensures.made, refl), looked)))))
 
 pub returns : goal.returns
 returns g c output =

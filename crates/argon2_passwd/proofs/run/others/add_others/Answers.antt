@@ -1,16 +1,14 @@
-use Rattle.argon2_passwd.proofs.Common.{[], arith, common_steps, err_from_is_err_and, err_is, inl, inr, memory_is, None, ◌≡◌}
+use Rattle.argon2_passwd.proofs.Common.{[], arith, common_steps, err_is, inl, inr, None, refl, ◌≡◌}
 use Rattle.argon2_passwd.proofs.Looks.{added}
 use Rattle.argon2_passwd.proofs.run.others.add_others.Goals as goal
 
 pub returns-in_err-new : goal.returns-in_err-new
 returns-in_err-new g c =
-    let (three, error, looks, is) = c.in_err-new.ensures.fails in
-    rw (err_is _ _ c.from_residual.ensures.1) (inr (three, inl (error, looks, is)))
+    let (three, looks) = c.in_err-new.ensures.fails in rw (err_is _ _ c.from_residual.ensures.1) (inr (three, inl looks))
 
 pub returns-in_err-entries : goal.returns-in_err-entries
 returns-in_err-entries g c =
-    let (f, is, of) = err_from_is_err_and c.from_residual-in_err-entries.result c.from_residual-in_err-entries.ensures.1 in
-    rw is (inr (memory_is f of, inl (None, c.in_ok-new.ensures.looks, of)))
+    rw (err_is _ _ c.from_residual-in_err-entries.ensures.1) (inr (refl, inl (None, c.in_ok-new.ensures.looks, refl)))
 
 pub returns-in_err-add_new : goal.returns-in_err-add_new
 returns-in_err-add_new g c =

@@ -1,29 +1,46 @@
-use Rattle.argon2_passwd.proofs.Common.{add-one, err_from_is_err_and, map, memory_is, no_refusal, None, refl, Some, unless_known}
+use Rattle.argon2_passwd.proofs.Common.{add-one, arith, Bool, entry_or_flaw, err_is, inl, is_named, Line, line_has_name, List, new_line, new_lines, None, refl, ℕ, ◌||◌, ◌∙◌, ◌≡◌}
 use Rattle.argon2_passwd.proofs.LineLemmas.{one_more}
 use Rattle.argon2_passwd.proofs.Looks.{looks_then, names_stay, was_honest}
 use Rattle.argon2_passwd.proofs.run.others.new_lines.Goals as goal
 
-pub returns-in_err-unless_known-clause-fails : goal.returns-in_err-unless_known-clause-fails
-returns-in_err-unless_known-clause-fails g c =
-    let e = c.in_err-unless_known.field-0.0 in
-    let (f, is, of) = err_from_is_err_and c.from_residual.result c.from_residual.ensures.1 in
-    rw is (no_refusal e f of c.in_err-unless_known.ensures.error, Some e, looks_then (Some e) _ _ _ c.loop-line.invariant.0 c.in_err-unless_known.ensures.looks, of)
+same_line : (line : Line) (p q : List ℕ → Bool) → ((name : List ℕ) → p name ≡ q name) → new_line q line ≡ new_line p line
+same_line line p q same = grind (arith, same)
+
+-- the names of the lines so far are taken, and those of the file
+joined : (line : Line) (is_taken old new known : List ℕ → Bool) → ((name : List ℕ) → is_taken name ≡ (old name || known name))
+    → ((name : List ℕ) → new name ≡ (line_has_name line name || old name))
+    → (name : List ℕ) → (line_has_name line name || is_taken name) ≡ (new name || known name)
+joined line is_taken old new known is more name = grind (arith, is name, more name)
+
+pub loop-line-init : goal.loop-line-init
+loop-line-init g c = (inl (refl, refl), λ known has honest. (is_named known, (λ name. grind arith), grind arith))
+
+pub returns-in_err-unless_taken-clause-fails : goal.returns-in_err-unless_taken-clause-fails
+returns-in_err-unless_taken-clause-fails g c =
+    let (three, (error, looks, is)) = c.in_err-unless_taken.ensures.fails in
+    rw (err_is _ _ c.from_residual.ensures.1) (three, (error, looks_then error _ _ _ c.loop-line.invariant.0 looks, is))
 
 pub returns-in_err-push-clause-fails : goal.returns-in_err-push-clause-fails
 returns-in_err-push-clause-fails g c =
-    let (f, is, of) = err_from_is_err_and c.from_residual-in_err-push.result c.from_residual-in_err-push.ensures.1 in
-    rw is (memory_is f of, None, looks_then None _ _ _ c.loop-line.invariant.0 c.in_ok-unless_known.ensures.looks, of)
+    rw (err_is _ _ c.from_residual-in_err-push.ensures.1)
+    (refl, (None, looks_then None _ _ _ c.loop-line.invariant.0 c.in_ok-unless_taken.ensures.looks, refl))
 
 pub loop-line-preserved : goal.loop-line-preserved
 loop-line-preserved g c =
     let (looks, made) = c.loop-line.invariant in
-    let looked = c.in_ok-unless_known.ensures.looks in (
+    let looked = c.in_ok-unless_taken.ensures.looks in (
       looks_then None _ _ _ looks looked,
-      λ names has honest.
-          let had = names_stay None _ _ looks names has in
-          let f = unless_known names in
-          rw (c.in_ok-push.ensures.items, add-one)
-          (one_more (map f) (map f) f c.args.lines.now c.loop-line.found.items c.loop-line.line-index c.line-item.result
-          c.in_ok-unless_known.field-0 _ (λ rest. refl) c.loop-line-test.true c.line-item.is (c.in_ok-unless_known.ensures.new names had honest)
-          (made names has (was_honest None _ _ looked names had honest))),
+      λ known has honest.
+          let had = names_stay None _ _ looks known has in
+          let (is_taken, is, sofar) = made known has (was_honest None _ _ looked known had honest) in
+          let x = entry_or_flaw c.line-item.result in
+          let taken_then = λ (name : List ℕ). line_has_name x name || is_taken name in
+          let said = c.in_ok-unless_taken.ensures.new known had honest ∙ same_line x is_taken _ is in (
+            taken_then,
+            joined x is_taken _ _ _ is c.in_ok-unless_taken.ensures.names,
+            rw (c.in_ok-push.ensures.items, add-one)
+                (one_more (new_lines is_taken) (new_lines taken_then) (new_line is_taken) c.args.lines.now c.loop-line.found.items
+                c.loop-line.line-index c.line-item.result c.in_ok-unless_taken.field-0 _ (λ rest. refl) c.loop-line-test.true c.line-item.is
+                said sofar),
+          ),
     )

@@ -1,4 +1,4 @@
-use Rattle.argon2_passwd.proofs.Common.{arith, behind_lock, Bool, Bor, err_from_is_err_and, false, inl, inr, is_locked, is_some, List, Option, option_copied, refl, scheme_of, Some, ℕ, ◌≡◌}
+use Rattle.argon2_passwd.proofs.Common.{arith, behind_lock, Bool, Bor, err_is, false, inl, inr, is_locked, is_some, List, Option, option_copied, refl, scheme_of, Some, ℕ, ◌≡◌}
 use Rattle.argon2_passwd.proofs.run.texts.read.Goals as goal
 
 open_is : (text : List ℕ) (r : Option (Bor (List ℕ))) {b : Bool} → option_copied r ≡ behind_lock text → b ≡ is_some r
@@ -12,9 +12,7 @@ returns-in-Some-clause-err c =
 
 pub returns-in_err-new-in-None-clause-err : goal.returns-in_err-new-in-None-clause-err
 returns-in_err-new-in-None-clause-err c =
-    let e = c.in_err-new-in-None.field-0.0 in
-    let (f, said, of) = err_from_is_err_and c.from_residual.result c.from_residual.ensures.1 in
-    rw said (grind arith)
+    rw (err_is _ _ c.from_residual.ensures.1) (grind arith)
 
 pub returns-in_ok-new-in-None-clause-ok : goal.returns-in_ok-new-in-None-clause-ok
 returns-in_ok-new-in-None-clause-ok c = grind arith
