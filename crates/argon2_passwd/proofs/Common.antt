@@ -16,8 +16,8 @@ pub use Rattle.argon2_rows.specs.Locks.{behind_lock, without_lock}
 pub use Rattle.argon2_store.specs.AccountFile.{HasCause, HasFailedBy, IsClosed, Reads}
 pub use Rattle.argon2_store.specs.declared.error.FileError.TheVariants.{Damaged}
 pub use Rattle.argon2_passwd.specs.Answers.{AccountFile, AddsEntries, additions, answer_without_text, Appends, AreSaid, behind, Bor, database_of, entries_in, entry_of, entry_or_flaw}
-pub use Rattle.argon2_passwd.specs.Answers.{FileError, Flaw, flaws_from, get, Ghosts, has_name, HasNames, is_locked, is_named, IsHonest, IsLooked, IsOfFirst, IsOpened, IsOpenFor, IsUnfound}
-pub use Rattle.argon2_passwd.specs.Answers.{Keeps, Line, line_has_name, Looks, NameTaken, new_line, new_lines, next_salt, of_file, OfPassword, option_map, password_of, phc_of, scheme_of}
+pub use Rattle.argon2_passwd.specs.Answers.{FileError, Flaw, flaws_from, get, Ghosts, has_name, HasNames, is_locked, has_text, IsHonest, IsLooked, IsOfFirst, IsOpened, IsOpenFor, IsUnfound}
+pub use Rattle.argon2_passwd.specs.Answers.{Keeps, Line, line_has_name, Looks, NameTaken, new_line, new_lines, next_salt, file_failure, OfPassword, option_map, password_of, phc_of, scheme_of}
 pub use Rattle.argon2_passwd.specs.Answers.{Serves, Stays, StoredText, Texts}
 pub use Rattle.argon2_passwd.specs.Lines.{IsEntryOrFlaw, IsTaken, parts_now, unmarked}
 pub use Rattle.argon2_passwd.specs.Passwords.{line_of}
@@ -51,7 +51,7 @@ said_of input any_text read said same are =
     IfSome_then input same (λ known all. subst (λ bytes. AreSaid any_text bytes said) all are)
 
 -- an error of the file is no refusal
-pub no_refusal : (e : FileError) → is_refusal e ≡ false → status_of (of_file e) ≡ 3
+pub no_refusal : (e : FileError) → is_refusal e ≡ false → status_of (file_failure e) ≡ 3
 no_refusal e file = grind arith
 
 denied_then : (Why : Phc → BoundError → Type 0) (o : Option (List ℕ)) (f : Failure) → IsDenied (λ v e. ⊥) o f → IsDenied Why o f

@@ -1,5 +1,5 @@
 -- Look-ups in a file, one after the other.
-use Rattle.argon2_passwd.proofs.Common.{AccountFile, additions, AddsEntries, arith, database_of, entries_in, FileError, Flaw, flaws_from, Ghosts, HasCause, HasFailedBy, HasNames, IfSome_then, inl, inr, is_named, IsClosed}
+use Rattle.argon2_passwd.proofs.Common.{AccountFile, additions, AddsEntries, arith, database_of, entries_in, FileError, Flaw, flaws_from, Ghosts, HasCause, HasFailedBy, HasNames, IfSome_then, inl, inr, has_text, IsClosed}
 use Rattle.argon2_passwd.proofs.Common.{IsHonest, Line, List, Looks, new_lines, None, Option, quiet_then, refl, Result, Serves, Stays, subst, sym, Texts, ℕ, ◌≡◌}
 use Rattle.sqlite_trees.specs.declared.error.StoreError.{StoreError}
 
@@ -47,7 +47,7 @@ module _ {S : Type 0} {g : Ghosts S} where
   pub added : {a b c : AccountFile S g} (ls new : List Line) (answer : Result (Unit {0}) FileError) {es : List (List ℕ × List ℕ)}
       {passed : List (ℕ × Flaw)} → Looks None a b → Serves (additions es) answer b c
       → (es ≡ entries_in new) × (passed ≡ flaws_from 1 new)
-      → ((names : Texts) → HasNames a names → IsHonest g (database_of b) → new ≡ new_lines (is_named names) ls)
+      → ((names : Texts) → HasNames a names → IsHonest g (database_of b) → new ≡ new_lines (has_text names) ls)
       → AddsEntries answer ls passed a c
   added {a} {b} {c} ls new answer looks serves (made, flawed) is = (
     b,

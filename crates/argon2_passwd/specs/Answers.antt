@@ -38,9 +38,9 @@ pub use Rattle.argon2_passwd.specs.Passwords.{IsUnread, password_of}
 pub use Rattle.argon2_passwd.specs.Salts.{IsSalt, next_salt}
 use Rattle.argon2_passwd.specs.declared.run.edits.Step.{Step}
 use Rattle.argon2_passwd.specs.declared.run.edits.Step.TheVariants as step
-pub use Rattle.argon2_passwd.specs.Failures.{BoundError, denial_line, Failure, FileError, IsDenialOf, IsOfWrite, LineError, Params, is_refusal, of_bound, of_file, of_lines, status_by, status_of}
+pub use Rattle.argon2_passwd.specs.Failures.{BoundError, denial_line, Failure, FileError, IsDenialOf, IsOfWrite, LineError, Params, is_refusal, bound_failure, file_failure, lines_failure, status_by, status_of}
 use Rattle.argon2_passwd.specs.Failures.{File, Line as AtLine, Name, Passed, Refused, Scheme}
-pub use Rattle.argon2_passwd.specs.Lines.{AreSaid, Bor, Flaw, IsOfFirst, Line, Phc, PhcText, StoredText, entries_in, entry_or_flaw, flaws_from, has_name, is_named, line_has_name, new_line, new_lines, scheme_of}
+pub use Rattle.argon2_passwd.specs.Lines.{AreSaid, Bor, Flaw, IsOfFirst, Line, Phc, PhcText, StoredText, entries_in, entry_or_flaw, flaws_from, has_name, has_text, line_has_name, new_line, new_lines, scheme_of}
 use Rattle.argon2_passwd.specs.Lines.{Taken, has_control}
 use Rattle.argon2_passwd.specs.declared.outside.News.{News}
 pub use Rattle.argon2_passwd.specs.News.{news_of, news_text}
@@ -85,7 +85,7 @@ IsShut text failure = (IsTrue (is_locked text) × (failure ≡ Refused (bound.Re
 abbrev pub IsDenied : (Phc → BoundError → Type 0) → Option (List ℕ) → Failure → Type 0
 IsDenied Why None failure = failure ≡ File NameUnknown
 IsDenied Why (Some text) failure = IsShut text failure
-    ⊎ ((v : Phc) × (e : BoundError) × SaysHash text v × Why v e × (failure ≡ of_bound e))
+    ⊎ ((v : Phc) × (e : BoundError) × SaysHash text v × Why v e × (failure ≡ bound_failure e))
 
 -- the secret of the file at a path, if there is one
 abbrev pub IsSecret : (List ℕ → List ℕ → Type 0) → Option (Bor (List ℕ)) → Option (List ℕ) → Type 0
@@ -120,7 +120,7 @@ module _ {S : Type 0} {g : Ghosts S} where
   abbrev pub FailsToAdd : FileError → List (List ℕ × List ℕ) → Failure → AccountFile S g → AccountFile S g → Type 0
   FailsToAdd NameTaken es failure before after = (names : Texts) → HasNames before names → IsHonest g (database_of after)
       → (k : ℕ) × (failure ≡ AtLine (k + 1) Taken) × IsFirstTaken names es k
-  FailsToAdd e es failure before after = failure ≡ of_file e
+  FailsToAdd e es failure before after = failure ≡ file_failure e
 
   -- how an addition of the entries ended: all are added, or none
   abbrev pub AddsLines : Outcome → List (List ℕ × List ℕ) → AccountFile S g → AccountFile S g → Type 0
@@ -140,7 +140,7 @@ module _ {S : Type 0} {g : Ghosts S} where
   AddsEntries answer ls passed before after = (mid : AccountFile S g) × (new : List Line)
       × Looks None before mid × Serves (additions (entries_in new)) answer mid after × (passed ≡ flaws_from 1 new)
       × ((names : Texts) → HasNames before names → IsHonest g (database_of after)
-      → new ≡ new_lines (is_named names) ls)
+      → new ≡ new_lines (has_text names) ls)
 
   -- the entries were added, and the failure has the numbers of the other lines, of which there are some
   abbrev pub PassesOver : Failure → List Line → AccountFile S g → AccountFile S g → Type 0
@@ -150,7 +150,7 @@ module _ {S : Type 0} {g : Ghosts S} where
   -- names were looked up until a look-up failed or memory ran out
   abbrev pub FailsToLook : Failure → AccountFile S g → AccountFile S g → Type 0
   FailsToLook failure before after =
-      (error : Option FileError) × Looks error before after × (failure ≡ of_file (unwrap_or error OutOfMemory))
+      (error : Option FileError) × Looks error before after × (failure ≡ file_failure (unwrap_or error OutOfMemory))
 
   -- How an addition of their entries ended. Before a failure that is no refusal, a look-up failed, or the entries were to be
   -- added. If a name that was looked up is taken, the file is damaged.
@@ -158,7 +158,7 @@ module _ {S : Type 0} {g : Ghosts S} where
   AddsOthers (Ok _) ls before after = AddsEntries (Ok tt) ls [] before after
   AddsOthers (Err failure) ls before after = PassesOver failure ls before after ⊎ ((status_of failure ≡ 3)
       × (FailsToLook failure before after ⊎ ((e : FileError) × (passed : List (ℕ × Flaw)) × AddsEntries (Err e) ls passed before after
-      × (failure ≡ of_file (if is_refusal e then Damaged else e)))))
+      × (failure ≡ file_failure (if is_refusal e then Damaged else e)))))
 
   -- a file at a path that was opened, with its names
   abbrev pub IsOpened : (List ℕ → Texts → Type 0) → List ℕ → AccountFile S g → Type 0
@@ -169,9 +169,9 @@ abbrev pub answer_without_text : Accepted → Accepted
 answer_without_text Rehashed = Kept
 answer_without_text did = did
 
--- how the program ends after a call with this answer, each of whose errors it calls so
-abbrev pub told_by : {E : Type 0} → (E → Failure) → Result (Unit {0}) E → Outcome
-told_by of done = result_map_both (λ x. x) of done
+-- the outcome of a call with this answer, of which each error becomes a failure
+abbrev pub outcome_by : {E : Type 0} → (E → Failure) → Result (Unit {0}) E → Outcome
+outcome_by failure done = result_map_both (λ x. x) failure done
 
 -- a line was written, or a front of it if a write fails
 abbrev pub Says : List ℕ → Outcome → Known → Known → Type 0
@@ -213,7 +213,7 @@ OfLine Gives policy _ input P = ⊥
 -- How a command ended that opened no file: its answer was said, or nothing, since it is refused before or fails.
 abbrev pub IsAnswered : (List ℕ → Type 0) → Policy → Action → Outcome → Known → Known → Known → Type 0
 IsAnswered Gives policy what result input old new = OfLine Gives policy what input (λ line. Says line result old new)
-    ⊎ (Keeps old new × IsErrAnd result (λ failure. status_of failure ≢ 3 → IsUnfit policy what input failure))
+    ⊎ (Keeps old new × IsErrAnd result (λ failure. (status_of failure ≡ 3) ⊎ IsUnfit policy what input failure))
 
 module _ {S : Type 0} (g : Ghosts S) (Has : List ℕ → Texts → Type 0) where
   -- the file at a path was opened, used so, and closed with this store
@@ -231,7 +231,7 @@ module _ {S : Type 0} (g : Ghosts S) (Has : List ℕ → Texts → Type 0) where
   -- all that was done there is one call, and this result tells of its answer
   abbrev pub IsApplied : List ℕ → FileEdit → (List S → Type 0) → Outcome → Type 0
   IsApplied path change Closed result =
-      (done : Result (Unit {0}) FileError) × (result ≡ told_by of_file done) × IsDone path (Serves (change ∷ []) done) Closed
+      (done : Result (Unit {0}) FileError) × (result ≡ outcome_by file_failure done) × IsDone path (Serves (change ∷ []) done) Closed
 
   -- the text of a name was read in the file at a path, which was closed with this store
   abbrev pub IsLooked : List ℕ → List ℕ → Result (Option (List ℕ)) FileError → (S → Type 0) → Type 0
@@ -243,7 +243,7 @@ module _ {S : Type 0} (g : Ghosts S) (Has : List ℕ → Texts → Type 0) where
   abbrev pub IsUnfound : (Phc → BoundError → Type 0) → List ℕ → List ℕ → (List S → Type 0) → Failure → Type 0
   IsUnfound Why path name Closed failure =
       ((o : Option (List ℕ)) × IsDenied Why o failure × IsLooked path name (Ok o) (λ read. Closed (read ∷ [])))
-      ⊎ ((e : FileError) × (failure ≡ of_file e) × IsLooked path name (Err e) (λ read. Closed (read ∷ [])))
+      ⊎ ((e : FileError) × (failure ≡ file_failure e) × IsLooked path name (Err e) (λ read. Closed (read ∷ [])))
 
 module _ {S : Type 0} (g : Ghosts S) (Has : List ℕ → Texts → Type 0) (Gives : List ℕ → Type 0) where
   -- A login with the password was all that was done with the file at a path, with this result. If the text accepts the
@@ -282,7 +282,7 @@ module _ {S : Type 0} (g : Ghosts S) (Has : List ℕ → Texts → Type 0) (Give
   IsUsed policy (OnFile path (Edits act name)) result input old new Closed =
       Keeps old new × IsChange policy path.now act name.now input Closed result
   IsUsed policy (OnFile path (Show view)) result input old new Closed =
-      (done : Result (Unit {0}) LineError) × (result ≡ told_by of_lines done)
+      (done : Result (Unit {0}) LineError) × (result ≡ outcome_by lines_failure done)
       × IsDone g Has path.now (λ before after. (names : Texts) → HasNames before names
       → Stays (error_of (read_by done)) names before after
       × (IsHonest g (database_of after) → WritesLines view names old new done)) Closed

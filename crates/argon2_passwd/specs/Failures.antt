@@ -41,38 +41,38 @@ abbrev pub status_by : Result (Unit {0}) Failure → ℕ
 status_by (Ok _) = 0
 status_by (Err failure) = status_of failure
 
--- the failure by a write with an error of this kind: output has no reader, or can't be written
-abbrev pub of_kind : ErrorKind → Failure
-of_kind BrokenPipe = Unread
-of_kind _ = Output
+-- the failure by a write: output has no reader, or can't be written
+abbrev pub kind_failure : ErrorKind → Failure
+kind_failure BrokenPipe = Unread
+kind_failure _ = Output
 
-abbrev pub of_write : IoError → Failure
-of_write error = of_kind (error_kind error)
+abbrev pub write_failure : IoError → Failure
+write_failure error = kind_failure (error_kind error)
 
 -- output can't be written, or has no reader
 abbrev pub IsOfWrite : Failure → Type 0
-IsOfWrite failure = (error : IoError) × (failure ≡ of_write error)
+IsOfWrite failure = (error : IoError) × (failure ≡ write_failure error)
 
 -- the failure by a refusal of the policy: out of memory is reported as that
-abbrev pub of_bound : BoundError → Failure
-of_bound (bound.Refused OutOfMemory) = Memory
-of_bound error = Refused error
+abbrev pub bound_failure : BoundError → Failure
+bound_failure (bound.Refused OutOfMemory) = Memory
+bound_failure error = Refused error
 
 -- the failure by a call on a file
-abbrev pub of_file : FileError → Failure
-of_file file.OutOfMemory = Memory
-of_file error = File error
+abbrev pub file_failure : FileError → Failure
+file_failure file.OutOfMemory = Memory
+file_failure error = File error
 
 -- the failure by lines that are not all written
-abbrev pub of_lines : LineError → Failure
-of_lines (lines.File error) = of_file error
-of_lines lines.Breaks = BrokenLine
-of_lines (lines.Write error) = of_write error
+abbrev pub lines_failure : LineError → Failure
+lines_failure (lines.File error) = file_failure error
+lines_failure lines.Breaks = BrokenLine
+lines_failure (lines.Write error) = write_failure error
 
 -- the failure by an open
-abbrev pub of_open : OpenError → Failure
-of_open no.OutOfMemory = Memory
-of_open error = Unopened error
+abbrev pub open_failure : OpenError → Failure
+open_failure no.OutOfMemory = Memory
+open_failure error = Unopened error
 
 -- ---- refusals that do not tell whether the name is there
 

@@ -104,9 +104,9 @@ new_lines is_taken (line ∷ ls) =
 abbrev pub has_name : BTreeSet (Bor (List ℕ)) → List ℕ → Bool
 has_name names name = contains_by (λ k. slice_cmp nat_cmp name k.now) names
 
--- a file with these names has this one
-abbrev pub is_named : Texts → List ℕ → Bool
-is_named names name = is_some (get names name)
+-- the name has a text
+abbrev pub has_text : Texts → List ℕ → Bool
+has_text names name = is_some (get names name)
 
 -- the entries of lines
 abbrev pub entries_in : List Line → List (List ℕ × List ℕ)

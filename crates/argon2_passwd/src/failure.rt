@@ -2,7 +2,7 @@
 
 ghost use Rattle.std.specs.Prelude.{◌≡◌, ◌≢◌};
 ghost use Rattle.std.specs.IoError.{error_kind};
-ghost use Rattle.argon2_passwd.specs.Failures.{Memory, of_bound, of_file, of_lines, of_open, of_write, status_of};
+ghost use Rattle.argon2_passwd.specs.Failures.{Memory, bound_failure, file_failure, lines_failure, open_failure, write_failure, status_of};
 
 use argon2::bound::BoundError;
 use argon2::password_hash;
@@ -142,7 +142,7 @@ impl<T: Drop> From<AllocFailed<T>> for Failure {
 
 /// The failure of a write.
 impl From<io::Error> for Failure {
-    ghost from_gives = { λ error failure. failure ≡ of_write error };
+    ghost from_gives = { λ error failure. failure ≡ write_failure error };
 
     fn from(error: io::Error) -> Failure {
         match error.kind() {
@@ -154,7 +154,7 @@ impl From<io::Error> for Failure {
 
 /// The failure of a call of the policy. Out of memory is reported as that.
 impl From<BoundError> for Failure {
-    ghost from_gives = { λ error failure. failure ≡ of_bound error };
+    ghost from_gives = { λ error failure. failure ≡ bound_failure error };
 
     fn from(error: BoundError) -> Failure {
         match error {
@@ -168,7 +168,7 @@ impl From<BoundError> for Failure {
 impl From<password_hash::Error> for Failure {
     ghost use Rattle.argon2.specs.declared.bound.BoundError.TheVariants.{Refused};
 
-    ghost from_gives = { λ error failure. failure ≡ of_bound (Refused error) };
+    ghost from_gives = { λ error failure. failure ≡ bound_failure (Refused error) };
 
     fn from(error: password_hash::Error) -> Failure {
         Failure::from(BoundError::Refused(error))
@@ -177,7 +177,7 @@ impl From<password_hash::Error> for Failure {
 
 /// The failure of a call on a file.
 impl From<FileError> for Failure {
-    ghost from_gives = { λ error failure. failure ≡ of_file error };
+    ghost from_gives = { λ error failure. failure ≡ file_failure error };
 
     fn from(error: FileError) -> Failure {
         match error {
@@ -189,7 +189,7 @@ impl From<FileError> for Failure {
 
 /// The failure of writing the lines of a file.
 impl From<LineError> for Failure {
-    ghost from_gives = { λ error failure. failure ≡ of_lines error };
+    ghost from_gives = { λ error failure. failure ≡ lines_failure error };
 
     fn from(error: LineError) -> Failure {
         match error {
@@ -202,7 +202,7 @@ impl From<LineError> for Failure {
 
 /// The failure of an open.
 impl From<OpenError> for Failure {
-    ghost from_gives = { λ error failure. failure ≡ of_open error };
+    ghost from_gives = { λ error failure. failure ≡ open_failure error };
 
     fn from(error: OpenError) -> Failure {
         match error {

@@ -1,6 +1,7 @@
 //! The program over any world outside it and any streams.
+#![tactic(auto, using(crate::proofs::Common::keeps_same))]
 
-ghost use Rattle.std.specs.Prelude.{◌≡◌, ◌≢◌, ◌≤◌, ◌⊎◌, ◌++◌, ◌∷◌, [], ℕ, vec_items, IfErr, IfOk, IsTrue, false, string_bytes, take};
+ghost use Rattle.std.specs.Prelude.{◌≡◌, ◌≤◌, ◌⊎◌, ◌++◌, ◌∷◌, [], ℕ, vec_items, IfErr, IfOk, IsTrue, false, string_bytes, take};
 ghost use Rattle.argon2_passwd.specs.Answers.{Appends, AppendsFront, IsAnswered, IsDenialOf, IsEnded, IsNewText, IsPolicy, IsSalt, IsSecret, IsTold, IsUnread, Outcome, Params, Says, denial_line, news_of, news_text, next_salt, option_map, phc_of, policy_by, policy_value, status_by, status_of};
 
 use crate::command::{Action, Command, Edit, Task};
@@ -202,7 +203,7 @@ fn new_text<P: Outside, R: BufRead>(
 ) -> Result<PasswordHash, Failure>
     ensures ok { IfOk result (λ text.
         IsNewText P.gives (policy_value policy.now) (R.remaining input.old) (phc_of text)) }
-    ensures err { IfErr result (λ failure. status_of failure ≢ 3 → IsUnread (R.remaining input.old) failure) }
+    ensures err { IfErr result (IsUnread (R.remaining input.old)) }
 {
     let mut rng = generator(outside)?;
     let password = password(alloc, input)?;

@@ -1,7 +1,7 @@
 //! An import that passes over lines.
 
 ghost use Rattle.std.specs.Prelude.{◌≡◌, ◌||◌, [], ℕ, List, None, Err, Ok, Option, if◌then◌else◌, IfErr, IfOk, OnOk, map};
-ghost use Rattle.argon2_passwd.specs.Answers.{AddsOthers, Damaged, FailsToLook, HasNames, IsHonest, IsServed, Looks, Serves, Texts, additions, database_of, entry_of, entry_or_flaw, has_name, is_named, is_refusal, line_has_name, new_line, new_lines, of_file, policy_value, status_of};
+ghost use Rattle.argon2_passwd.specs.Answers.{AddsOthers, Damaged, FailsToLook, HasNames, IsHonest, IsServed, Looks, Serves, Texts, additions, database_of, entry_of, entry_or_flaw, has_name, has_text, is_refusal, line_has_name, new_line, new_lines, file_failure, policy_value, status_of};
 
 use super::accounts::{Access, open};
 use crate::command::{Action, Task};
@@ -66,7 +66,7 @@ fn new_lines<'a, S: Store>(
         × FailsToLook failure accounts.old accounts.new) }
     ensures new { (known : Texts) → HasNames accounts.old known → IfOk result (λ found.
         IsHonest S.Store (database_of accounts.new) → map entry_or_flaw found.items
-        ≡ new_lines (is_named known) (map entry_or_flaw lines.now)) }
+        ≡ new_lines (has_text known) (map entry_or_flaw lines.now)) }
 {
     let mut names = BTreeSet::new(alloc);
     let mut found = Vec::new(alloc);
@@ -87,7 +87,7 @@ fn unless_taken<'a, S: Store>(
         × FailsToLook failure accounts.old accounts.new) }
     ensures new { (known : Texts) → HasNames accounts.old known → IfOk result (λ new.
         IsHonest S.Store (database_of accounts.new) → entry_or_flaw new ≡ new_line
-        (λ name. has_name names.old name || is_named known name) (entry_or_flaw line.entry)) }
+        (λ name. has_name names.old name || has_text known name) (entry_or_flaw line.entry)) }
     ensures names { OnOk result ((name : List ℕ) → has_name names.new name
         ≡ (line_has_name (entry_or_flaw line.entry) name || has_name names.old name)) }
 {
@@ -113,7 +113,7 @@ fn add_new<S: Store>(
         (Serves (additions (map entry_of entries.now)) (Ok tt) accounts.old accounts.new) }
     ensures err { IfErr result (λ failure. (status_of failure ≡ 3) × (e : FileError)
         × Serves (additions (map entry_of entries.now)) (Err e) accounts.old accounts.new
-        × (failure ≡ of_file (if is_refusal e then Damaged else e))) }
+        × (failure ≡ file_failure (if is_refusal e then Damaged else e))) }
 {
     let Err((_, error)) = accounts.add_all(entries) else {
         return Ok(());

@@ -6,11 +6,7 @@ returns-in_err-accepted g c =
     let read = c.in_ok-password in
     let denied = rw c.as_slice.ensures.value at c.in_err-accepted.ensures.err in
     rw (err_is _ _ c.from_residual-in_err-accepted.ensures.1)
-    (inr (keeps_same _, (λ isnt. inr (read.password.items, read.ensures.found, denied))))
-
-pub returns-in_err-reply : goal.returns-in_err-reply
-returns-in_err-reply g c =
-    rw (err_is _ _ c.from_residual-in_err-reply.ensures.1) (inr (keeps_same _, (λ isnt. absurd (isnt refl))))
+    (inr (keeps_same _, inr (inr (read.password.items, read.ensures.found, denied))))
 
 pub returns : goal.returns
 returns g c =

@@ -12,6 +12,3 @@ returns-in-NameTaken g c = (
       let next : c.saturating_add.result ≡ c.in-Err.index + 1 = grind (arith, rules, common_steps) in
       (c.in-Err.index, ap (λ n. Line n Taken) next, first),
 )
-
-pub returns-in_default : goal.returns-in_default
-returns-in_default g c = (_, c.in-Err.ensures.call, grind arith)

@@ -18,7 +18,7 @@ returns-in-Some g c output =
     c.in_ok-bytes.ensures.ok (rw c.as_slice.ensures.value at c.in_ok-lines.ensures) in
     let split = rw c.as_slice-2.ensures.value at c.in_ok-entries.ensures in
     let first = rw c.deref.ensures.value at c.first.ensures.value in
-    inr (c.requires, inr (keeps_same _, (λ isnt. (said, lines, rw (← split.1) (of_first _ c.first.result _ first c.in-Some.is)))))
+    inr (c.requires, inr (keeps_same _, inr (said, lines, rw (← split.1) (of_first _ c.first.result _ first c.in-Some.is))))
 
 pub returns : goal.returns
 returns g c output =

@@ -1,14 +1,6 @@
 use Rattle.argon2_passwd.proofs.Common.{err_is, inr, keeps_same}
 use Rattle.argon2_passwd.proofs.run.accounts.serve.Goals as goal
 
-pub returns-in_err-look-in-OnFile : goal.returns-in_err-look-in-OnFile
-returns-in_err-look-in-OnFile g c =
-    rw (c.in-OnFile.is, err_is _ _ c.from_residual.ensures.1)
-    (inr (c.requires, inr (keeps_same _, (λ isnt. absurd (isnt c.in_err-look-in-OnFile.ensures)))))
-
-pub returns-in-Check : goal.returns-in-Check
-returns-in-Check g c = rw c.in-Check.is (inr (c.requires, c.check.ensures))
-
 pub returns-in-Edit : goal.returns-in-Edit
 returns-in-Edit g c = rw (c.in-OnFile.is, c.in-Edit.is) (c.edit.ensures _)
 

@@ -7,7 +7,7 @@ returns-in_err-accepted g c =
     rw (err_is _ _ c.from_residual-in_err-accepted.ensures.1)
     (elim c.in_err-accepted.ensures [
       | inl login ↦ inl (Err _, (refl, keeps_same _), (_, found, login))
-      | inr (shut, three) ↦ inr (shut, inr (keeps_same _, (λ isnt. absurd (isnt three))))
+      | inr (shut, three) ↦ inr (shut, inr (keeps_same _, inl three))
     ])
 
 pub returns : goal.returns

@@ -6,7 +6,7 @@ returns-in_err-text g c output =
     rw (err_is _ _ c.from_residual-in_err-text.ensures.1) (elim c.in_err-text.ensures [
       | inl missing ↦ inl (of_two _ _ _ c.as_slice-first.ensures.value c.as_slice-second.ensures.value c.in_ok-first.ensures.rest
           c.in_ok-first.ensures.found c.in_ok-second.ensures.found (inl (unfound_then _ (g.P.Outside.closed c.look.new.outside) missing)))
-      | inr (shut, three) ↦ inr (shut, inr (keeps_same _, (λ isnt. absurd (isnt three))))
+      | inr (shut, three) ↦ inr (shut, inr (keeps_same _, inl three))
     ])
 
 pub returns-in_err-fresh : goal.returns-in_err-fresh

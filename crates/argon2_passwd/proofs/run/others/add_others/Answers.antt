@@ -2,14 +2,6 @@ use Rattle.argon2_passwd.proofs.Common.{[], arith, common_steps, err_is, inl, in
 use Rattle.argon2_passwd.proofs.Looks.{added}
 use Rattle.argon2_passwd.proofs.run.others.add_others.Goals as goal
 
-pub returns-in_err-new : goal.returns-in_err-new
-returns-in_err-new g c =
-    let (three, looks) = c.in_err-new.ensures.fails in rw (err_is _ _ c.from_residual.ensures.1) (inr (three, inl looks))
-
-pub returns-in_err-entries : goal.returns-in_err-entries
-returns-in_err-entries g c =
-    rw (err_is _ _ c.from_residual-in_err-entries.ensures.1) (inr (refl, inl (None, c.in_ok-new.ensures.looks, refl)))
-
 pub returns-in_err-add_new : goal.returns-in_err-add_new
 returns-in_err-add_new g c =
     let (three, e, serves, is) = rw c.as_slice-2.ensures.value at c.in_err-add_new.ensures.err in

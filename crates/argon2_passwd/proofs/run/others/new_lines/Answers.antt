@@ -1,4 +1,4 @@
-use Rattle.argon2_passwd.proofs.Common.{add-one, arith, Bool, entry_or_flaw, err_is, inl, is_named, Line, line_has_name, List, new_line, new_lines, None, refl, ℕ, ◌||◌, ◌∙◌, ◌≡◌}
+use Rattle.argon2_passwd.proofs.Common.{arith, Bool, common_steps, entry_or_flaw, err_is, inl, has_text, Line, line_has_name, List, new_line, new_lines, None, refl, ℕ, ◌||◌, ◌∙◌, ◌≡◌}
 use Rattle.argon2_passwd.proofs.LineLemmas.{one_more}
 use Rattle.argon2_passwd.proofs.Looks.{looks_then, names_stay, was_honest}
 use Rattle.argon2_passwd.proofs.run.others.new_lines.Goals as goal
@@ -13,7 +13,7 @@ joined : (line : Line) (is_taken old new known : List ℕ → Bool) → ((name :
 joined line is_taken old new known is more name = grind (arith, is name, more name)
 
 pub loop-line-init : goal.loop-line-init
-loop-line-init g c = (inl (refl, refl), λ known has honest. (is_named known, (λ name. grind arith), grind arith))
+loop-line-init g c = (inl (refl, refl), λ known has honest. (has_text known, (λ name. grind arith), grind arith))
 
 pub returns-in_err-unless_taken-clause-fails : goal.returns-in_err-unless_taken-clause-fails
 returns-in_err-unless_taken-clause-fails g c =
@@ -38,9 +38,6 @@ loop-line-preserved g c =
           let said = c.in_ok-unless_taken.ensures.new known had honest ∙ same_line x is_taken _ is in (
             taken_then,
             joined x is_taken _ _ _ is c.in_ok-unless_taken.ensures.names,
-            rw (c.in_ok-push.ensures.items, add-one)
-                (one_more (new_lines is_taken) (new_lines taken_then) (new_line is_taken) c.args.lines.now c.loop-line.found.items
-                c.loop-line.line-index c.line-item.result c.in_ok-unless_taken.field-0 _ (λ rest. refl) c.loop-line-test.true c.line-item.is
-                said sofar),
+            grind (arith, common_steps),
           ),
     )

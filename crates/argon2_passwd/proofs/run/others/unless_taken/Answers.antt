@@ -1,5 +1,5 @@
 use Rattle.std.proofs.lemmas.Map.Text.{is_eq-slice_cmp}
-use Rattle.argon2_passwd.proofs.Common.{arith, err_is, false, has_name, inr, is_named, no_refusal, refl, Some, true, ◌≡◌}
+use Rattle.argon2_passwd.proofs.Common.{arith, err_is, false, has_name, inr, has_text, no_refusal, refl, Some, true, ◌≡◌}
 use Rattle.argon2_passwd.proofs.run.others.unless_taken.Goals as goal
 
 pub returns-then-not-branch-clause-new : goal.returns-then-not-branch-clause-new
@@ -16,14 +16,14 @@ pub returns-then-is_some-clause-new : goal.returns-then-is_some-clause-new
 returns-then-is_some-clause-new g c known has = λ honest.
     let shows = c.in_ok-text_of.ensures.shows known (c.in_ok-text_of.ensures.reads known has).has honest in
     let new : has_name c.args.names.now c.in-Ok.name.now ≡ false = grind arith in
-    let there : is_named known c.in-Ok.name.now ≡ true = grind arith in
+    let there : has_text known c.in-Ok.name.now ≡ true = grind arith in
     rw (c.in-Ok.is, new, there) refl
 
 pub returns-else-is_some-clause-new : goal.returns-else-is_some-clause-new
 returns-else-is_some-clause-new g c known has = λ honest.
     let shows = c.in_ok-text_of.ensures.shows known (c.in_ok-text_of.ensures.reads known has).has honest in
     let new : has_name c.args.names.now c.in-Ok.name.now ≡ false = grind arith in
-    let none : is_named known c.in-Ok.name.now ≡ false = grind arith in
+    let none : has_text known c.in-Ok.name.now ≡ false = grind arith in
     rw (c.in-Ok.is, new, none) refl
 
 pub returns-then-is_some-clause-names : goal.returns-then-is_some-clause-names
