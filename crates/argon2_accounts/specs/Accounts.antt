@@ -1,5 +1,5 @@
 -- What calls on accounts do to the names of their file, and the words that their contracts share.
-use Rattle.std.specs.Prelude.{◌≡◌, ◌⊎◌, ℕ, ◌<◌, List, [], ◌∷◌, false, Option, Some, None, IsSomeAnd, MatchResult, Result, Ok, Err, IsTrue, length}
+use Rattle.std.specs.Prelude.{◌≡◌, ◌⊎◌, ℕ, ◌<◌, List, [], ◌∷◌, false, Option, Some, None, IsSomeAnd, Result, Ok, Err, IsTrue, length}
 pub use Rattle.std.specs.FinMap.{get}
 pub use Rattle.std.specs.Result.{result_map_both}
 pub use Rattle.rand_core.specs.Stream.{Stream, fill_bytes}
@@ -18,9 +18,8 @@ pub use Rattle.argon2_policy.specs.Policy.{Admits, Denial, LogsIn, MakingRefusal
 use Rattle.argon2_rows.specs.Locks.{is_locked}
 pub use Rattle.argon2_rows.specs.Names.{Texts, changed}
 pub use Rattle.argon2_rows.specs.Table.{IsHonest}
-pub use Rattle.argon2_store.specs.AccountFile.{HasNames, IsClosed, Serves, database_of}
+pub use Rattle.argon2_store.specs.AccountFile.{HasNames, IsClosed, NamesStay, Serves, database_of}
 pub use Rattle.argon2_store.specs.Edits.{Edit, adding, replacing, setting, text_of}
-pub use Rattle.argon2_store.specs.Runs.{Does, reads}
 pub use Rattle.argon2_store.specs.declared.account_file.AccountFile.{AccountFile}
 pub use Rattle.argon2_store.specs.declared.error.FileError.{FileError}
 pub use Rattle.argon2_accounts.specs.Errors.{is_account_refusal, of_file, of_policy}
@@ -72,8 +71,8 @@ module _ {S : Type 0} {g : Ghosts S} where
 
   -- a call that changes no name: if the file can't be read, its error is that of the result
   abbrev pub OnlyReads : {X : Type 0} → Result X AccountError → AccountFile S g → AccountFile S g → Type 0
-  OnlyReads result old new = (error : Option FileError) × Does (reads error) old new
-      × MatchResult result (λ x. error ≡ None) (IsOfReading error)
+  OnlyReads (Ok x) old new = NamesStay None old new
+  OnlyReads (Err why) old new = (error : Option FileError) × NamesStay error old new × IsOfReading error why
 
   -- The text of the name is read, and perhaps a fresh text of the password written in the place of the one that was read,
   -- of which the result tells.
@@ -81,7 +80,7 @@ module _ {S : Type 0} {g : Ghosts S} where
       → (Result (Unit {0}) FileError → Type 0) → AccountFile S g → AccountFile S g → Type 0
   Replaces target name password drawn result Tells old new = OnlyReads result old new
       ⊎ ((mid : AccountFile S g) × (text : List ℕ) × (fresh : PasswordHash) × (done : Result (Unit {0}) FileError)
-      × Does (reads None) old mid × IsFresh target password drawn (phc_of fresh)
+      × NamesStay None old mid × IsFresh target password drawn (phc_of fresh)
       × Serves (replacing name text (text_of fresh) ∷ []) done mid new × Tells done)
 
   -- the names after a call on a file with names, if the disk has given no wrong answer that was taken as true

@@ -10,7 +10,7 @@ use argon2::login::{Accepted, LoggedIn};
 use argon2::password_hash::Error;
 use argon2_policy::Policy;
 use argon2_rows::text::behind_lock;
-use argon2_store::AccountFile;
+use argon2_store::{AccountFile, FileError};
 use rand_core::Rng;
 use sqlite_trees::store::Store;
 
@@ -88,11 +88,8 @@ impl<'key, S: Store> Accounts<'key, S> {
         let Some(fresh) = fresh else {
             return Ok(accepted);
         };
-        match self.file.replace(name, text.text().as_str(), &fresh) {
-            Ok(()) => Ok(accepted),
-            Err(_) if !self.file.is_closed() => Ok(Accepted::Kept),
-            Err(error) => Err(error.into()),
-        }
+        let renewed = self.file.replace(name, text.text().as_str(), &fresh);
+        after_renewal(renewed, self.file.is_closed())
     }
 
     /// Gives a name a text of a new password if its text accepts the old one, as
@@ -170,8 +167,17 @@ fn stored<S: Store>(
         policy.hash_for_nobody(password);
         return Err(AccountError::Refused(Error::PasswordInvalid));
     }
-    match PasswordHash::new(text.as_str()) {
-        Ok(hash) => Ok(hash),
-        Err(error) => Err(AccountError::Refused(error)),
+    PasswordHash::new(text.as_str()).map_err(AccountError::Refused)
+}
+
+// What a login answers whose fresh text was to be written: without it, as long as the file is open.
+fn after_renewal(renewed: Result<(), FileError>, closed: bool) -> Result<Accepted, AccountError>
+    ensures tells { TellsOfRenewal result renewed }
+    ensures closed { OnErr result (IsTrue closed) }
+{
+    match renewed {
+        Ok(()) => Ok(Accepted::Rehashed),
+        Err(_) if !closed => Ok(Accepted::Kept),
+        Err(error) => Err(error.into()),
     }
 }
