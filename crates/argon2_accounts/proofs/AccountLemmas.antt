@@ -1,6 +1,6 @@
 -- What calls on a file and answers of a policy make of the names.
 pub use Rattle.std.proofs.Common.{[], ap, arith, Err, inl, inr, List, None, Ok, Option, refl, Result, rules, Some, ℕ, ◌∙◌, ◌∷◌, ◌≡◌, ◌⊎◌}
-use Rattle.std.specs.Prelude.{◌<◌, IsTrue, length}
+use Rattle.std.specs.Prelude.{IsTrue}
 use Rattle.argon2_policy.proofs.PolicyLemmas.{denied}
 use Rattle.argon2_policy.specs.Policy.{ChangeRefusal, DrawsIfAdmitted}
 use Rattle.argon2_rows.proofs.RowLemmas.{get-changed}
@@ -25,8 +25,6 @@ pub has_password : (policy : Policy) (name password : List ℕ) (names : Texts) 
     → get names name ≡ Some (text_of h) → Admits policy password (phc_of h) → AdmitsName policy names name password
 has_password policy name password names h has admits = rw has (phc_of h, (h.grammatical, refl), admits)
 
--- ---- calls on a file
-
 module _ {S : Type 0} {g : Ghosts S} where
   -- names that a call has only read
   pub reads_leave : (P : Texts → Texts → Type 0) {error : Option FileError} {old new : AccountFile S g} → NamesStay error old new
@@ -44,47 +42,38 @@ module _ {S : Type 0} {g : Ghosts S} where
       let it = serves before read.has in
       (it.0, it.1.has, λ honest. holds before it.0 read.has (it.1.honest honest) (it.1.answers honest))
 
-  -- an edit that gives the text of a hash
+  -- a name that is given the text of a hash
   pub gives_text : (policy : Policy) (edit : Edit) (password : List ℕ) (h : PasswordHash)
       → ((o : Option (List ℕ)) → gives edit o ≡ Some (text_of h)) → Admits policy password (phc_of h)
       → (done : Result (Unit {0}) FileError) (result : Result (Unit {0}) AccountError) → TellsOf result done
       → {old new : AccountFile S g} → Serves (edit ∷ []) done old new
       → RelatesNames (GivesPassword policy (name_of edit) password result) old new
-  gives_text policy edit password h given admits (Ok x) result tells serves before has =
-      let it = serves before has in (
-        it.0,
-        it.1.has,
-        λ honest. rw tells
-            (has_password policy (name_of edit) password it.0 h ((edit_leaves edit before it.0 (it.1.answers honest)).1 ∙ given _) admits),
-      )
-  gives_text policy edit password h given admits (Err e) result tells serves before has =
-      let it = serves before has in (it.0, it.1.has, λ honest. rw tells (it.1.answers honest).1)
+  gives_text policy edit password h given admits done result tells serves before has =
+      let it = serves before has in
+      let left = edit_leaves edit before it.0 in
+      let says = has_password policy (name_of edit) password it.0 h in
+      let gives_it = given (get before (name_of edit)) in
+      (it.0, it.1.has, λ honest. let answers = it.1.answers honest in grind arith)
 
--- ---- answers of a policy, and a text that is replaced
-
--- a name that has a text gets another, unless the file fails: an error of it is no refusal
-fails_to_edit : (name old new text : List ℕ) (before after : Texts) (e : FileError) → get before name ≡ Some text
-    → Answers before (replacing name old new ∷ []) (Err e) after → ¬ (IsTrue (is_account_refusal (of_file e)))
-fails_to_edit name old new text before after e has answers is = grind arith
+-- ---- a name with the text of a hash, which is verified, and perhaps replaced
 
 module _ (policy : Policy) (name password : List ℕ) (before : Texts) (h : PasswordHash) (has : get before name ≡ Some (text_of h)) where
-  pub denies : (why : BoundError) → Denial policy password (phc_of h) why
-      → TextRefusal policy password (get before name) (of_policy why)
-  denies why denial = rw has (inr (inr (phc_of h, why, (h.grammatical, refl), denial, refl)))
-
   -- why a password is not changed
-  pub keeps : (fresh : List ℕ) (why : BoundError) (rng left : Stream)
-      → ChangeRefusal policy password fresh (phc_of h) why
+  pub keeps : (fresh : List ℕ) (why : BoundError) (rng left : Stream) → ChangeRefusal policy password fresh (phc_of h) why
       → DrawsIfAdmitted {X = PasswordHash} policy password (phc_of h) (Err why) rng left
-      → IsTrue (is_account_refusal (of_policy why)) → (TextRefusal policy password (get before name) (of_policy why) × (left ≡ rng))
-      ⊎ (AdmitsName policy before name password × (max_len < length fresh))
-  keeps fresh why rng left made drawn is =
+      → ChangesName {X = Unit {0}} policy name password fresh rng left (Err (of_policy why)) before before
+  keeps fresh why rng left made (inr (denial, same)) =
+      (refl, λ is. inl (rw has (inr (inr (phc_of h, why, (h.grammatical, refl), denial, refl))), same))
+  keeps fresh why rng left made (inl (by, drawn)) =
       let no = denied policy password (phc_of h) why in
-      let refusal = denies why in
-      let admitted = has_password policy name password before h has in
-      grind arith
+      let admits = has_password policy name password before h has by in
+      (refl, grind arith)
 
-  -- the password is changed, or the file fails
+  -- another text is written, unless the file fails: its error is no refusal
+  fails_to_edit : (old new : List ℕ) (after : Texts) (e : FileError) → Answers before (replacing name old new ∷ []) (Err e) after
+      → ¬ (IsTrue (is_account_refusal (of_file e)))
+  fails_to_edit old new after e answers is = grind arith
+
   pub changes : (new old : List ℕ) (rng left : Stream) (fresh : PasswordHash) (after : Texts)
       (done : Result (Unit {0}) FileError) (result : Result (Unit {0}) AccountError) → TellsOf result done
       → Admits policy password (phc_of h) → Admits policy new (phc_of fresh)
@@ -92,25 +81,24 @@ module _ (policy : Policy) (name password : List ℕ) (before : Texts) (h : Pass
       → Answers before (replacing name old (text_of fresh) ∷ []) done after
       → ChangesName policy name password new rng left result before after
   changes new old rng left fresh after (Ok x) result is by next made answers =
-      let left = edit_leaves (replacing name old (text_of fresh)) before after answers in rw is
-      (has_password policy name password before h has by, has_password policy name new after fresh left.1 next, (phc_of fresh, made, left.0))
+      let left = edit_leaves (replacing name old (text_of fresh)) before after answers in
+      let had = has_password policy name password before h has by in
+      rw is (had, has_password policy name new after fresh left.1 next, (phc_of fresh, made, left.0))
   changes new old rng left fresh after (Err e) result is by next made answers =
-      rw is (answers.1, λ is. absurd (fails_to_edit name old (text_of fresh) _ before after e has answers is))
+      rw is (answers.1, λ is. absurd (fails_to_edit old (text_of fresh) after e answers is))
 
-  -- a login that makes a fresh text, which is written, or the file fails
+  -- a login whose fresh text is written, or not
   pub renews : (old drawn : List ℕ) (fresh : PasswordHash) (after : Texts) (done : Result (Unit {0}) FileError)
       (result : Result Accepted AccountError) → LogsIn policy password drawn (phc_of h) (Ok Rehashed) (phc_of fresh)
       → Admits policy password (phc_of h) → Admits policy password (phc_of fresh)
       → Answers before (replacing name old (text_of fresh) ∷ []) done after → TellsOfRenewal result done
       → LogsNameIn policy name password drawn result before after
   renews old drawn fresh after (Ok x) result step by next answers is =
-      let left = edit_leaves (replacing name old (text_of fresh)) before after answers in rw is (
-        has_password policy name password before h has by,
-        has_password policy name password after fresh left.1 next,
-        (phc_of h, phc_of fresh, has, step, left.0),
-      )
+      let left = edit_leaves (replacing name old (text_of fresh)) before after answers in
+      let had = has_password policy name password before h has by in
+      rw is (had, has_password policy name password after fresh left.1 next, (phc_of h, phc_of fresh, has, step, left.0))
   renews old drawn fresh after (Err e) result step by next answers (inl is) =
-      let it = has_password policy name password before h has by in
-      rw is (it, rw answers.1 it, (phc_of h, phc_of h, has, (step.0, step.1, refl), answers.1))
+      let had = has_password policy name password before h has by in
+      rw is (had, rw answers.1 had, (phc_of h, phc_of h, has, (step.0, step.1, refl), answers.1))
   renews old drawn fresh after (Err e) result step by next answers (inr is) =
-      rw is (answers.1, λ is. absurd (fails_to_edit name old (text_of fresh) _ before after e has answers is))
+      rw is (answers.1, λ is. absurd (fails_to_edit old (text_of fresh) after e answers is))

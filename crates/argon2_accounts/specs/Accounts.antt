@@ -1,5 +1,5 @@
 -- What calls on accounts do to the names of their file, and the words that their contracts share.
-use Rattle.std.specs.Prelude.{◌≡◌, ◌⊎◌, ℕ, ◌<◌, List, [], ◌∷◌, false, Option, Some, None, IsSomeAnd, Result, Ok, Err, IsTrue, length}
+use Rattle.std.specs.Prelude.{◌≡◌, ◌⊎◌, ℕ, ◌<◌, List, [], ◌∷◌, false, Option, Some, None, IsSomeAnd, MatchOption, Result, Ok, Err, IsTrue, length}
 pub use Rattle.std.specs.FinMap.{get}
 pub use Rattle.std.specs.Result.{result_map_both}
 pub use Rattle.rand_core.specs.Stream.{Stream, fill_bytes}
@@ -46,11 +46,6 @@ abbrev pub Renews : List ℕ → Accepted → Phc → Texts → Texts → Type 0
 Renews name Rehashed w before after = after ≡ changed before name (Some (phc_text w))
 Renews name did w before after = after ≡ before
 
--- an error of a call that reads a file, which has this error if it can't be read
-abbrev pub IsOfReading : Option FileError → AccountError → Type 0
-IsOfReading (Some e) why = why ≡ of_file e
-IsOfReading None why = IsTrue (is_account_refusal why) ⊎ (why ≡ OutOfMemory)
-
 -- the result is the answer of the file
 abbrev pub TellsOf : Result (Unit {0}) AccountError → Result (Unit {0}) FileError → Type 0
 TellsOf result done = result ≡ result_map_both (λ x. x) of_file done
@@ -69,19 +64,20 @@ module _ {S : Type 0} {g : Ghosts S} where
       ⊎ ((fresh : PasswordHash) × (done : Result (Unit {0}) FileError) × IsFresh target password drawn (phc_of fresh)
       × TellsOf result done × Serves (edit (text_of fresh) ∷ []) done old new)
 
-  -- a call that changes no name: if the file can't be read, its error is that of the result
+  -- A call that changes no name. If the file can't be read, its error is that of the result; any other is a refusal or of memory.
   abbrev pub OnlyReads : {X : Type 0} → Result X AccountError → AccountFile S g → AccountFile S g → Type 0
   OnlyReads (Ok x) old new = NamesStay None old new
-  OnlyReads (Err why) old new = (error : Option FileError) × NamesStay error old new × IsOfReading error why
+  OnlyReads (Err why) old new = (error : Option FileError) × NamesStay error old new
+      × MatchOption error (IsTrue (is_account_refusal why) ⊎ (why ≡ OutOfMemory)) (λ e. why ≡ of_file e)
 
   -- The text of the name is read, and perhaps a fresh text of the password written in the place of the one that was read,
   -- of which the result tells.
-  abbrev pub Replaces : {X : Type 0} → Target → List ℕ → List ℕ → List ℕ → Result X AccountError
-      → (Result (Unit {0}) FileError → Type 0) → AccountFile S g → AccountFile S g → Type 0
-  Replaces target name password drawn result Tells old new = OnlyReads result old new
+  abbrev pub Replaces : {X : Type 0} → (Result X AccountError → Result (Unit {0}) FileError → Type 0) → Target → List ℕ → List ℕ
+      → List ℕ → Result X AccountError → AccountFile S g → AccountFile S g → Type 0
+  Replaces Tells target name password drawn result old new = OnlyReads result old new
       ⊎ ((mid : AccountFile S g) × (text : List ℕ) × (fresh : PasswordHash) × (done : Result (Unit {0}) FileError)
       × NamesStay None old mid × IsFresh target password drawn (phc_of fresh)
-      × Serves (replacing name text (text_of fresh) ∷ []) done mid new × Tells done)
+      × Serves (replacing name text (text_of fresh) ∷ []) done mid new × Tells result done)
 
   -- the names after a call on a file with names, if the disk has given no wrong answer that was taken as true
   abbrev pub RelatesNames : (Texts → Texts → Type 0) → AccountFile S g → AccountFile S g → Type 0

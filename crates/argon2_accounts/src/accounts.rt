@@ -1,6 +1,6 @@
 //! Names with passwords in a file.
 
-ghost use Rattle.std.specs.Prelude.{◌≡◌, ◌⊎◌, IfErr, IfOk, IsTrue, OnErr, Some};
+ghost use Rattle.std.specs.Prelude.{◌≡◌, ◌⊎◌, IsTrue, MatchResult, OnErr, Some};
 ghost use Rattle.argon2_accounts.specs.Accounts.{ChangesName, DrawsForChange, DrawsForLogin, GivesPassword, LogsNameIn, OnlyReads, RelatesNames, Replaces, Stores, TellsOf, TellsOfRenewal, TextRefusal};
 ghost use Rattle.argon2_accounts.specs.Accounts.{HasNames, IsClosed, IsHonest, Texts, adding, database_of, fill_bytes, get, is_account_refusal, policy_value, setting, text_of};
 
@@ -73,9 +73,8 @@ impl<'key, S: Store> Accounts<'key, S> {
         name: &str,
         password: &[u8],
     ) -> Result<Accepted, AccountError>
-        ensures call { Replaces (policy_value self.old.policy).target name.now password.now
-            (fill_bytes 16 (R.stream rng.old)).0 result (TellsOfRenewal result)
-            self.old.file self.new.file }
+        ensures call { Replaces TellsOfRenewal (policy_value self.old.policy).target name.now
+            password.now (fill_bytes 16 (R.stream rng.old)).0 result self.old.file self.new.file }
         ensures names { RelatesNames (LogsNameIn (policy_value self.old.policy) name.now password.now
             (fill_bytes 16 (R.stream rng.old)).0 result) self.old.file self.new.file }
         ensures policy { self.new.policy ≡ self.old.policy }
@@ -107,8 +106,8 @@ impl<'key, S: Store> Accounts<'key, S> {
         old: &[u8],
         new: &[u8],
     ) -> Result<(), AccountError>
-        ensures call { Replaces (policy_value self.old.policy).target name.now new.now
-            (fill_bytes 16 (R.stream rng.old)).0 result (TellsOf result) self.old.file self.new.file }
+        ensures call { Replaces TellsOf (policy_value self.old.policy).target name.now new.now
+            (fill_bytes 16 (R.stream rng.old)).0 result self.old.file self.new.file }
         ensures names { RelatesNames (ChangesName (policy_value self.old.policy) name.now old.now new.now
             (R.stream rng.old) (R.stream rng.new) result) self.old.file self.new.file }
         ensures policy { self.new.policy ≡ self.old.policy }
@@ -153,10 +152,9 @@ fn stored<S: Store>(
     password: &[u8],
 ) -> Result<PasswordHash, AccountError>
     ensures reads { OnlyReads result file.old file.new }
-    ensures found { (names : Texts) → HasNames file.new names → IfOk result (λ text.
-        IsHonest S.Store (database_of file.new) → get names name.now ≡ Some (text_of text)) }
-    ensures refused { (names : Texts) → HasNames file.new names → IfErr result (λ e.
-        IsHonest S.Store (database_of file.new) → IsTrue (is_account_refusal e) →
+    ensures names { (names : Texts) → HasNames file.new names →
+        IsHonest S.Store (database_of file.new) → MatchResult result
+        (λ text. get names name.now ≡ Some (text_of text)) (λ e. IsTrue (is_account_refusal e) →
         TextRefusal (policy_value policy.now) password.now (get names name.now) e) }
 {
     let Some(text) = file.text_of(name)? else {

@@ -1,9 +1,9 @@
-use Rattle.argon2_accounts.proofs.AccountLemmas.{arith, denies, edited, err_is, has_password, inl, inr, None, policy_value, reads_leave, refl, renews, rules}
+use Rattle.argon2_accounts.proofs.AccountLemmas.{arith, edited, err_is, has_password, inl, inr, None, policy_value, reads_leave, refl, renews, rules}
 use Rattle.argon2_accounts.proofs.accounts.Accounts.log_in.Goals as goal
 
 pub returns-in_err-text-clause-names : goal.returns-in_err-text-clause-names
 returns-in_err-text-clause-names g c = reads_leave _ c.in_err-text.ensures.reads.1 (λ names has honest.
-    search (rules, c.in_err-text.ensures.refused names has honest))
+    search (rules, c.in_err-text.ensures.names names has honest))
 
 pub returns-in_err-accepted-clause-call : goal.returns-in_err-accepted-clause-call
 returns-in_err-accepted-clause-call g c =
@@ -11,15 +11,12 @@ returns-in_err-accepted-clause-call g c =
 
 pub returns-in_err-accepted-clause-names : goal.returns-in_err-accepted-clause-names
 returns-in_err-accepted-clause-names g c = reads_leave _ c.in_ok-text.ensures.reads (λ names has honest.
-    search (
-      rules,
-      denies (policy_value c.args.self.now.policy) _ _ names c.in_ok-text.text
-          (c.in_ok-text.ensures.found names has honest) _ c.in_err-accepted.ensures.step,
-    ))
+    rw (err_is _ _ c.from_residual-in_err-accepted.ensures.1, c.in_ok-text.ensures.names names has honest)
+    (refl, λ is. inr (inr (_, _, (c.in_ok-text.text.grammatical, refl), c.in_err-accepted.ensures.step, refl))))
 
 pub returns-in_default-clause-names : goal.returns-in_default-clause-names
 returns-in_default-clause-names g c = reads_leave _ c.in_ok-text.ensures.reads (λ names has honest.
-    let is = c.in_ok-text.ensures.found names has honest in
+    let is = c.in_ok-text.ensures.names names has honest in
     let it = has_password (policy_value c.args.self.now.policy) _ _ names c.in_ok-text.text is c.in_ok-accepted.ensures.accepted.0 in
     (it, it, (_, _, is, rw c.in_default.is at c.in_ok-accepted.ensures.step, grind arith)))
 
@@ -34,5 +31,5 @@ returns-clause-names g c =
     let is = (rw c.in-Some.is at c.in_ok-accepted.ensures.fresh).0 refl in
     let step = rw is at (rw c.in-Some.is at c.in_ok-accepted.ensures.step) in
     edited _ c.in_ok-text.ensures.reads c.replace-renewed.ensures (λ before after has honest answers.
-    renews (policy_value c.args.self.now.policy) _ _ before c.in_ok-text.text (c.in_ok-text.ensures.found before has honest) _ _
+    renews (policy_value c.args.self.now.policy) _ _ before c.in_ok-text.text (c.in_ok-text.ensures.names before has honest) _ _
     c.in-Some.fresh after _ _ step admits.0 admits.1 answers c.after_renewal.ensures.tells)
