@@ -1,30 +1,19 @@
 -- What calls on accounts do to the names of their file, and the words that their contracts share.
 use Rattle.std.specs.Prelude.{◌≡◌, ◌⊎◌, ℕ, ◌<◌, List, [], ◌∷◌, false, Option, Some, None, IsSomeAnd, MatchOption, Result, Ok, Err, IsTrue, length}
-pub use Rattle.std.specs.FinMap.{get}
 pub use Rattle.std.specs.Result.{result_map_both}
-pub use Rattle.rand_core.specs.Stream.{Stream, fill_bytes}
-pub use Rattle.sqlite_trees.specs.declared.store.Store.{Ghosts}
-pub use Rattle.argon2_base.specs.PhcFields.{phc_of}
 use Rattle.argon2_base.specs.PhcText.{Phc, PhcText, phc_text}
-use Rattle.argon2_base.specs.declared.error.password_hash.Error.TheVariants.{EncodingInvalid, PasswordInvalid}
 pub use Rattle.argon2_base.specs.declared.phc.hash.PasswordHash.{PasswordHash}
-pub use Rattle.argon2.specs.TextHashing.{IsFresh, Target}
-use Rattle.argon2.specs.NamedTexts.{IsText, stream_after}
-pub use Rattle.argon2.specs.Refusals.{max_len}
-pub use Rattle.argon2.specs.declared.bound.BoundError.{BoundError}
+use Rattle.argon2.specs.NamedTexts.{IsText}
 pub use Rattle.argon2.specs.declared.login.answers.Accepted.{Accepted}
-pub use Rattle.argon2.specs.declared.login.answers.Accepted.TheVariants.{Kept, Rehashed}
-pub use Rattle.argon2_policy.specs.Policy.{Admits, Denial, LogsIn, MakingRefusal, Policy, policy_value}
+pub use Rattle.argon2_policy.specs.Policy.{Admits, BoundError, Denial, IsFresh, Kept, LogsIn, MakingRefusal, PasswordInvalid, Policy, Rehashed, Stream, Target, fill_bytes, max_len, phc_of, policy_value, stream_after}
 use Rattle.argon2_rows.specs.Locks.{is_locked}
-pub use Rattle.argon2_rows.specs.Names.{Texts, changed}
-pub use Rattle.argon2_rows.specs.Table.{IsHonest}
+pub use Rattle.argon2_rows.specs.Names.{Texts, changed, get}
+pub use Rattle.argon2_rows.specs.Table.{Ghosts, IsHonest}
 pub use Rattle.argon2_store.specs.AccountFile.{HasNames, IsClosed, NamesStay, Serves, database_of}
 pub use Rattle.argon2_store.specs.Edits.{Edit, adding, replacing, setting, text_of}
 pub use Rattle.argon2_store.specs.declared.account_file.AccountFile.{AccountFile}
-pub use Rattle.argon2_store.specs.declared.error.FileError.{FileError}
-pub use Rattle.argon2_accounts.specs.Errors.{is_account_refusal, of_file, of_policy}
-pub use Rattle.argon2_accounts.specs.declared.error.AccountError.{AccountError}
-use Rattle.argon2_accounts.specs.declared.error.AccountError.TheVariants.{NameUnknown, OutOfMemory, Refused}
+pub use Rattle.argon2_accounts.specs.Errors.{AccountError, FileError, is_account_refusal, of_file, of_policy}
+use Rattle.argon2_accounts.specs.Errors.{EncodingInvalid, NameUnknown, OutOfMemory, Refused}
 
 -- the text accepts the password within the bound
 abbrev pub AdmitsText : Policy → List ℕ → List ℕ → Type 0
@@ -112,8 +101,3 @@ ChangesName policy name old password rng left (Err e) before after = (after ≡ 
 abbrev pub DrawsForLogin : Result Accepted AccountError → Stream → Stream → Type 0
 DrawsForLogin (Ok did) before after = after ≡ stream_after {E = AccountError} (Ok did) before
 DrawsForLogin (Err e) before after = (after ≡ before) ⊎ (after ≡ (fill_bytes 16 before).1)
-
--- the same after a change of a password, which makes a fresh text
-abbrev pub DrawsForChange : Result (Unit {0}) AccountError → Stream → Stream → Type 0
-DrawsForChange (Ok _) before after = after ≡ (fill_bytes 16 before).1
-DrawsForChange (Err e) before after = (after ≡ before) ⊎ (after ≡ (fill_bytes 16 before).1)

@@ -1,12 +1,12 @@
 -- The errors of accounts.
 use Rattle.std.specs.Prelude.{Bool, true, false}
-use Rattle.argon2_base.specs.declared.error.password_hash.Error.TheVariants.{OutOfMemory as NoMemory}
+pub use Rattle.argon2_base.specs.declared.error.password_hash.Error.TheVariants.{EncodingInvalid, OutOfMemory as NoMemory}
 use Rattle.argon2.specs.declared.bound.BoundError.{BoundError}
 use Rattle.argon2.specs.declared.bound.BoundError.TheVariants as bound
-use Rattle.argon2_store.specs.declared.error.FileError.{FileError}
+pub use Rattle.argon2_store.specs.declared.error.FileError.{FileError}
 use Rattle.argon2_store.specs.declared.error.FileError.TheVariants as file
-use Rattle.argon2_accounts.specs.declared.error.AccountError.{AccountError}
-use Rattle.argon2_accounts.specs.declared.error.AccountError.TheVariants.{NameTaken, NameUnknown, TooExpensive, Refused, OutOfMemory, Io, Damaged, Full, TooLong, Closed}
+pub use Rattle.argon2_accounts.specs.declared.error.AccountError.{AccountError}
+pub use Rattle.argon2_accounts.specs.declared.error.AccountError.TheVariants.{NameTaken, NameUnknown, TooExpensive, Refused, OutOfMemory, Io, Damaged, Full, TooLong, Closed}
 
 -- what an error of the file is called: a text that is another one than was read is damage
 abbrev pub of_file : FileError → AccountError

@@ -1,7 +1,7 @@
 //! Names with passwords in a file.
 
-ghost use Rattle.std.specs.Prelude.{◌≡◌, ◌⊎◌, IsTrue, MatchResult, OnErr, Some};
-ghost use Rattle.argon2_accounts.specs.Accounts.{ChangesName, DrawsForChange, DrawsForLogin, GivesPassword, LogsNameIn, OnlyReads, RelatesNames, Replaces, Stores, TellsOf, TellsOfRenewal, TextRefusal};
+ghost use Rattle.std.specs.Prelude.{◌≡◌, ◌⊎◌, IsErr, IsTrue, MatchResult, OnErr, Some};
+ghost use Rattle.argon2_accounts.specs.Accounts.{ChangesName, DrawsForLogin, GivesPassword, LogsNameIn, OnlyReads, RelatesNames, Replaces, Stores, TellsOf, TellsOfRenewal, TextRefusal};
 ghost use Rattle.argon2_accounts.specs.Accounts.{HasNames, IsClosed, IsHonest, Texts, adding, database_of, fill_bytes, get, is_account_refusal, policy_value, setting, text_of};
 
 use crate::error::AccountError;
@@ -111,7 +111,8 @@ impl<'key, S: Store> Accounts<'key, S> {
         ensures names { RelatesNames (ChangesName (policy_value self.old.policy) name.now old.now new.now
             (R.stream rng.old) (R.stream rng.new) result) self.old.file self.new.file }
         ensures policy { self.new.policy ≡ self.old.policy }
-        ensures drawn { DrawsForChange result (R.stream rng.old) (R.stream rng.new) }
+        ensures drawn { (R.stream rng.new ≡ (fill_bytes 16 (R.stream rng.old)).1)
+            ⊎ (IsErr result × (R.stream rng.new ≡ R.stream rng.old)) }
     {
         let text = stored(&self.policy, &mut self.file, name, old)?;
         let fresh = self.policy.change_password(rng, &text, old, new)?;
