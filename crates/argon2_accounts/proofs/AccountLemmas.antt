@@ -1,6 +1,5 @@
 -- What calls on a file and answers of a policy make of the names.
-pub use Rattle.std.proofs.Common.{[], ap, arith, Err, inl, inr, List, None, Ok, Option, refl, Result, rules, Some, ℕ, ◌∙◌, ◌∷◌, ◌≡◌, ◌⊎◌}
-use Rattle.std.specs.Prelude.{IsTrue}
+pub use Rattle.std.proofs.Common.{[], ap, arith, Err, inl, inr, IsTrue, List, None, Ok, Option, refl, Result, rules, Some, ℕ, ◌∙◌, ◌∷◌, ◌≡◌, ◌⊎◌}
 use Rattle.argon2_policy.proofs.PolicyLemmas.{denied}
 use Rattle.argon2_policy.specs.Policy.{ChangeRefusal, DrawsIfAdmitted}
 use Rattle.argon2_rows.proofs.RowLemmas.{get-changed}
@@ -11,14 +10,11 @@ pub use Rattle.argon2_accounts.specs.Accounts.{LogsIn, LogsNameIn, PasswordHash,
 pub use Rattle.argon2_accounts.specs.Accounts.{fill_bytes, get, is_account_refusal, max_len, of_file, of_policy, phc_of, policy_value, replacing, result_map_both, setting, text_of, AccountError, MakingRefusal, NamesStay, TellsOf}
 pub use Rattle.argon2_rows.proofs.TableLemmas.{err_is}
 
--- ---- names
-
 -- an edit that is accepted leaves its name what it gives
 edit_leaves : (edit : Edit) (before after : Texts) → names_after (edit ∷ []) before ≡ Ok after
     → (after ≡ changed before (name_of edit) (gives edit (get before (name_of edit))))
     × (get after (name_of edit) ≡ gives edit (get before (name_of edit)))
-edit_leaves edit before after is =
-    let has = get-changed before (name_of edit) (gives edit (get before (name_of edit))) in grind arith
+edit_leaves edit before after is = grind (arith, get-changed)
 
 -- the text of a hash says the hash's value
 pub has_password : (policy : Policy) (name password : List ℕ) (names : Texts) (h : PasswordHash)
@@ -52,11 +48,9 @@ module _ {S : Type 0} {g : Ghosts S} where
       let it = serves before has in
       let left = edit_leaves edit before it.0 in
       let says = has_password policy (name_of edit) password it.0 h in
-      let gives_it = given (get before (name_of edit)) in
-      (it.0, it.1.has, λ honest. let answers = it.1.answers honest in grind arith)
+      (it.0, it.1.has, λ honest. let answers = it.1.answers honest in grind (arith, given (get before (name_of edit))))
 
--- ---- a name with the text of a hash, which is verified, and perhaps replaced
-
+-- a name with the text of a hash, which is verified, and perhaps replaced
 module _ (policy : Policy) (name password : List ℕ) (before : Texts) (h : PasswordHash) (has : get before name ≡ Some (text_of h)) where
   -- why a password is not changed
   pub keeps : (fresh : List ℕ) (why : BoundError) (rng left : Stream) → ChangeRefusal policy password fresh (phc_of h) why

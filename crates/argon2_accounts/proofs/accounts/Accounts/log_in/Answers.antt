@@ -28,8 +28,6 @@ returns-clause-call g c =
 pub returns-clause-names : goal.returns-clause-names
 returns-clause-names g c =
     let admits = rw c.in-Some.is at c.in_ok-accepted.ensures.accepted in
-    let is = (rw c.in-Some.is at c.in_ok-accepted.ensures.fresh).0 refl in
-    let step = rw is at (rw c.in-Some.is at c.in_ok-accepted.ensures.step) in
     edited _ c.in_ok-text.ensures.reads c.replace-renewed.ensures (λ before after has honest answers.
     renews (policy_value c.args.self.now.policy) _ _ before c.in_ok-text.text (c.in_ok-text.ensures.names before has honest) _ _
-    c.in-Some.fresh after _ _ step admits.0 admits.1 answers c.after_renewal.ensures.tells)
+    c.in-Some.fresh after _ _ (grind arith) admits.0 admits.1 answers c.after_renewal.ensures.tells)
