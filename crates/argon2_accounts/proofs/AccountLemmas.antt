@@ -59,9 +59,7 @@ module _ (policy : Policy) (name password : List ℕ) (before : Texts) (h : Pass
   keeps fresh why rng left made (inr (denial, same)) =
       (refl, λ is. inl (rw has (inr (inr (phc_of h, why, (h.grammatical, refl), denial, refl))), same))
   keeps fresh why rng left made (inl (by, drawn)) =
-      let no = denied policy password (phc_of h) why in
-      let admits = has_password policy name password before h has by in
-      (refl, grind arith)
+      (refl, grind (arith, denied policy password (phc_of h) why, has_password policy name password before h has by))
 
   -- another text is written, unless the file fails: its error is no refusal
   fails_to_edit : (old new : List ℕ) (after : Texts) (e : FileError) → Answers before (replacing name old new ∷ []) (Err e) after

@@ -2,10 +2,11 @@
 use Rattle.std.specs.Prelude.{◌≡◌, ◌⊎◌, ℕ, ◌<◌, List, [], ◌∷◌, false, Option, Some, None, IsSomeAnd, MatchOption, Result, Ok, Err, IsTrue, length}
 pub use Rattle.std.specs.Result.{result_map_both}
 use Rattle.argon2_base.specs.PhcText.{Phc, PhcText, phc_text}
+use Rattle.argon2_base.specs.declared.error.password_hash.Error.TheVariants.{EncodingInvalid, PasswordInvalid}
 pub use Rattle.argon2_base.specs.declared.phc.hash.PasswordHash.{PasswordHash}
 use Rattle.argon2.specs.NamedTexts.{IsText}
 pub use Rattle.argon2.specs.declared.login.answers.Accepted.{Accepted}
-pub use Rattle.argon2_policy.specs.Policy.{Admits, BoundError, Denial, IsFresh, Kept, LogsIn, MakingRefusal, PasswordInvalid, Policy, Rehashed, Stream, Target, fill_bytes, max_len, phc_of, policy_value, stream_after}
+pub use Rattle.argon2_policy.specs.Policy.{Admits, BoundError, Denial, IsFresh, Kept, LogsIn, MakingRefusal, Policy, Rehashed, Stream, Target, fill_bytes, max_len, phc_of, policy_value, stream_after}
 use Rattle.argon2_rows.specs.Locks.{is_locked}
 pub use Rattle.argon2_rows.specs.Names.{Texts, changed, get}
 pub use Rattle.argon2_rows.specs.Table.{Ghosts, IsHonest}
@@ -13,7 +14,7 @@ pub use Rattle.argon2_store.specs.AccountFile.{HasNames, IsClosed, NamesStay, Se
 pub use Rattle.argon2_store.specs.Edits.{Edit, adding, replacing, setting, text_of}
 pub use Rattle.argon2_store.specs.declared.account_file.AccountFile.{AccountFile}
 pub use Rattle.argon2_accounts.specs.Errors.{AccountError, FileError, is_account_refusal, of_file, of_policy}
-use Rattle.argon2_accounts.specs.Errors.{EncodingInvalid, NameUnknown, OutOfMemory, Refused}
+use Rattle.argon2_accounts.specs.Errors.{NameUnknown, OutOfMemory, Refused}
 
 -- the text accepts the password within the bound
 abbrev pub AdmitsText : Policy → List ℕ → List ℕ → Type 0

@@ -1,8 +1,7 @@
 -- The errors of accounts.
 use Rattle.std.specs.Prelude.{Bool, true, false}
-pub use Rattle.argon2_base.specs.declared.error.password_hash.Error.TheVariants.{EncodingInvalid, OutOfMemory as NoMemory}
-use Rattle.argon2.specs.declared.bound.BoundError.{BoundError}
 use Rattle.argon2.specs.declared.bound.BoundError.TheVariants as bound
+use Rattle.argon2_policy.specs.Policy.{BoundError, OutOfMemory as NoMemory}
 pub use Rattle.argon2_store.specs.declared.error.FileError.{FileError}
 use Rattle.argon2_store.specs.declared.error.FileError.TheVariants as file
 pub use Rattle.argon2_accounts.specs.declared.error.AccountError.{AccountError}

@@ -15,8 +15,7 @@ returns-in_err-fresh-clause-names g c = reads_leave _ c.in_ok-text.ensures.reads
 
 pub returns-clause-call : goal.returns-clause-call
 returns-clause-call g c =
-    let made = c.in_ok-fresh.ensures.made.1 in
-    inr (_, _, c.in_ok-fresh.fresh, _, c.in_ok-text.ensures.reads, made, c.replace-done.ensures, search rules)
+    inr (_, _, c.in_ok-fresh.fresh, _, c.in_ok-text.ensures.reads, search rules, c.replace-done.ensures, search rules)
 
 pub returns-clause-names : goal.returns-clause-names
 returns-clause-names g c = edited _ c.in_ok-text.ensures.reads c.replace-done.ensures (λ before after has honest answers.

@@ -22,12 +22,10 @@ returns-in_default-clause-names g c = reads_leave _ c.in_ok-text.ensures.reads (
 
 pub returns-clause-call : goal.returns-clause-call
 returns-clause-call g c =
-    let tells = c.after_renewal.ensures.tells in
-    inr (_, _, c.in-Some.fresh, _, c.in_ok-text.ensures.reads, grind arith, c.replace-renewed.ensures, tells)
+    inr (_, _, c.in-Some.fresh, _, c.in_ok-text.ensures.reads, grind arith, c.replace-renewed.ensures, search rules)
 
 pub returns-clause-names : goal.returns-clause-names
 returns-clause-names g c =
-    let admits = rw c.in-Some.is at c.in_ok-accepted.ensures.accepted in
     edited _ c.in_ok-text.ensures.reads c.replace-renewed.ensures (λ before after has honest answers.
     renews (policy_value c.args.self.now.policy) _ _ before c.in_ok-text.text (c.in_ok-text.ensures.names before has honest) _ _
-    c.in-Some.fresh after _ _ (grind arith) admits.0 admits.1 answers c.after_renewal.ensures.tells)
+    c.in-Some.fresh after _ _ (grind arith) c.in_ok-accepted.ensures.accepted.0 (grind arith) answers c.after_renewal.ensures.tells)
