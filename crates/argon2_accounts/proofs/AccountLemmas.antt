@@ -66,6 +66,7 @@ module _ (policy : Policy) (name password : List ℕ) (before : Texts) (h : Pass
       → ¬ (IsTrue (is_account_refusal (of_file e)))
   fails_to_edit old new after e answers is = grind arith
 
+  -- the password is changed, unless the file fails
   pub changes : (new old : List ℕ) (rng left : Stream) (fresh : PasswordHash) (after : Texts)
       (done : Result (Unit {0}) FileError) (result : Result (Unit {0}) AccountError) → TellsOf result done
       → Admits policy password (phc_of h) → Admits policy new (phc_of fresh)

@@ -28,4 +28,4 @@ pub returns-clause-names : goal.returns-clause-names
 returns-clause-names g c =
     edited _ c.in_ok-text.ensures.reads c.replace-renewed.ensures (λ before after has honest answers.
     renews (policy_value c.args.self.now.policy) _ _ before c.in_ok-text.text (c.in_ok-text.ensures.names before has honest) _ _
-    c.in-Some.fresh after _ _ (grind arith) c.in_ok-accepted.ensures.accepted.0 (grind arith) answers c.after_renewal.ensures.tells)
+    c.in-Some.fresh after _ _ (grind arith) c.in_ok-accepted.ensures.accepted.0 (grind arith) answers (search rules))
