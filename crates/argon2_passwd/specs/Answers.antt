@@ -21,7 +21,7 @@ pub use Rattle.argon2_rows.specs.Names.{IsFirstTaken, Texts, entry_of, get}
 use Rattle.argon2_rows.specs.Rows.{breaks_line}
 pub use Rattle.argon2_rows.specs.Table.{IsHonest}
 use Rattle.argon2_rows.specs.declared.view.View.TheVariants as views
-pub use Rattle.argon2_store.specs.AccountFile.{HasNames, IsReady, Serves, Stays, WritesLines, error_of, database_of}
+pub use Rattle.argon2_store.specs.AccountFile.{HasNames, IsReady, NamesStay, Serves, Stays, WritesLines, error_of, database_of}
 use Rattle.argon2_store.specs.Edits.{Edit as FileEdit, adding, locking, removing, replacing, setting, text_of, unlocking}
 pub use Rattle.argon2_store.specs.Edits.{additions}
 use Rattle.argon2_store.specs.Errors.{read_by}
@@ -130,8 +130,7 @@ module _ {S : Type 0} {g : Ghosts S} where
 
   -- names were looked up in a file, which changes none, up to this error if there was one
   abbrev pub Looks : Option FileError → AccountFile S g → AccountFile S g → Type 0
-  Looks error before after = ((error ≡ None) × (after ≡ before))
-      ⊎ ((names : Texts) → HasNames before names → Stays error names before after)
+  Looks error before after = ((error ≡ None) × (after ≡ before)) ⊎ NamesStay error before after
 
   -- Names were looked up, and entries of lines were to be added together, with this answer: those whose names neither the
   -- file nor an earlier line has. The other lines have these flaws.

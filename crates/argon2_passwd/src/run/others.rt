@@ -115,11 +115,9 @@ fn add_new<S: Store>(
         × Serves (additions (map entry_of entries.now)) (Err e) accounts.old accounts.new
         × (failure ≡ file_failure (if is_refusal e then Damaged else e))) }
 {
-    let Err((_, error)) = accounts.add_all(entries) else {
-        return Ok(());
-    };
-    if error.is_refusal() {
-        return Err(FileError::Damaged.into());
+    match accounts.add_all(entries) {
+        Ok(()) => Ok(()),
+        Err((_, error)) if error.is_refusal() => Err(FileError::Damaged.into()),
+        Err((_, error)) => Err(error.into()),
     }
-    Err(error.into())
 }
