@@ -166,7 +166,10 @@ fn stored<S: Store>(
         policy.hash_for_nobody(password);
         return Err(AccountError::Refused(Error::PasswordInvalid));
     }
-    PasswordHash::new(text.as_str()).map_err(AccountError::Refused)
+    match PasswordHash::new(text.as_str()) {
+        Ok(hash) => Ok(hash),
+        Err(error) => Err(AccountError::Refused(error)),
+    }
 }
 
 // What a login answers whose fresh text was to be written: without it, as long as the file is open.

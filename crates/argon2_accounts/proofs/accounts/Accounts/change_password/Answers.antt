@@ -1,9 +1,13 @@
-use Rattle.argon2_accounts.proofs.AccountLemmas.{changes, edited, err_is, inr, keeps, policy_value, reads_leave, rules}
+use Rattle.argon2_accounts.proofs.AccountLemmas.{arith, changes, edited, err_is, inl, inr, keeps, None, policy_value, reads_leave, rules}
 use Rattle.argon2_accounts.proofs.accounts.Accounts.change_password.Goals as goal
 
 pub returns-in_err-text-clause-names : goal.returns-in_err-text-clause-names
 returns-in_err-text-clause-names g c = reads_leave _ c.in_err-text.ensures.reads.1 (λ names has honest.
     search (rules, c.in_err-text.ensures.names names has honest))
+
+pub returns-in_err-fresh-clause-call : goal.returns-in_err-fresh-clause-call
+returns-in_err-fresh-clause-call g c =
+    rw (err_is _ _ c.from_residual-in_err-fresh.ensures.1) (inl (None, c.in_ok-text.ensures.reads, grind arith))
 
 pub returns-in_err-fresh-clause-names : goal.returns-in_err-fresh-clause-names
 returns-in_err-fresh-clause-names g c = reads_leave _ c.in_ok-text.ensures.reads (λ names has honest.
