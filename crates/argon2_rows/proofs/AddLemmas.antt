@@ -1,6 +1,6 @@
 -- Names to which several are added.
-use Rattle.argon2_rows.proofs.Imports.{◌≡◌, ℕ, List, [], ◌∷◌, ◌++◌, false, sym, Some, Result, Ok, Err, refl, Io, arith, inl, map, Bor, Any, StoreError, Ghosts, Texts, AddsAll, AddsEach, AddsNames, changed, get, None}
-use Rattle.argon2_rows.proofs.Imports.{WritesAll, IsPermutation, entry_of, Changes, bytes_eq-Decides, HasBegun, IsKept, Writes, written_of, HasRows, HasFailed, CrashLeaves, ◌⊎◌, IsHonest, IsLong, IsOpen, StaysQuiet}
+use Rattle.argon2_rows.proofs.Imports.{◌≡◌, ℕ, List, [], ◌∷◌, ◌++◌, false, Some, Result, Ok, Err, refl, Io, arith, inl, map, Bor, Any, StoreError, Ghosts, Texts, AddsAll, AddsEach, AddsNames, changed, get, None}
+use Rattle.argon2_rows.proofs.Imports.{WritesAll, IsPermutation, entry_of, Changes, bytes_eq-Decides, HasBegun, IsKept, Writes, written_of, HasRows, CrashLeaves, ◌⊎◌, IsHonest, IsLong, IsOpen, StaysQuiet}
 use Rattle.argon2_rows.proofs.Imports.{StoredText, AddError, Store, Taken}
 use Rattle.std.proofs.lemmas.Result.{on_ok_weaker}
 use Rattle.std.proofs.lemmas.List.Sorted.{Contains-permutation, IsPermutation-map, IsPermutation-sym}
@@ -10,7 +10,7 @@ use Rattle.argon2_rows.proofs.TableLemmas.{Settled, cause_map, changes_of, leave
 
 pub add_last : (es : List (List ℕ × List ℕ)) (before mid after : Texts) (e : List ℕ × List ℕ) → AddsAll before es mid
     → get mid e.0 ≡ None → after ≡ changed mid e.0 (Some e.1) → AddsAll before (es ++ e ∷ []) after
-add_last [] before mid after e same none last = let first : before ≡ mid = sym same in rw first (none, last)
+add_last [] before mid after e same none last = grind arith
 add_last (x ∷ xs) before mid after e all none last = (all.0, add_last xs _ mid after e all.1 none last)
 
 -- ---- the order of the names
@@ -20,7 +20,7 @@ Reorders es fs = (before after : Texts) → AddsAll before es after → AddsAll 
 
 -- the first two may change places
 turn : (x y : List ℕ × List ℕ) (es : List (List ℕ × List ℕ)) → Reorders (x ∷ y ∷ es) (y ∷ x ∷ es)
-turn x y es before after (none, (gone, rest)) =
+turn x y es before after all =
     let test = bytes_eq-Decides y.0 x.0 in
     let back = bytes_eq-Decides x.0 y.0 in
     let turned = changed_apart before x.0 y.0 (Some x.1) (Some y.1) in
@@ -74,18 +74,16 @@ module _ {S : Type 0} (g : Ghosts S) where
     pub written_later : (new : S) (es : List (List ℕ × List ℕ)) (r : Result (Unit {0}) AddError)
         → (IsHonest g mid → IsOpen g mid) → WritesAll g mid new before es r → WritesAll g old new before es r
     written_later new es (Ok x) is_open (after, may, all, change) =
-        (after, may, all, changes_later quiet (λ clean. had.1.sound clean (is_open clean)) (λ l. l) change)
-    written_later new es (Err (Store e)) is_open (after, may, all, change) =
-        (after, may, all, changes_later quiet (λ clean. had.1.sound clean (is_open clean)) (λ l. l) change)
-    written_later new es (Err (Taken k)) is_open (names, first, more) = (names, first, quiet_then g old mid new quiet more)
+        (after, may, all, search (arith, cause_map))
+    written_later new es (Err (Store e)) is_open (after, may, all, change) = (after, may, all, search (arith, cause_map))
+    written_later new es (Err (Taken k)) is_open wrote = search arith
 
     -- names are not written, since taking others back has closed the file
     pub unwritten : (es : List (List ℕ × List ℕ)) → Settled g → (IsHonest g old → IsOpen g old) → IsKept g old before
         → (IsHonest g mid → (g.view mid).is_open ≡ false) → AddsNames g old mid before es (Err Io)
     unwritten es settled was_open has shut =
         let earlier : IsHonest g mid → IsHonest g old = λ clean. omega (arith, clean, quiet.clean) in
-        let closes : IsHonest g mid → IsOpen g mid ⊎ HasFailed g old mid = λ clean. quiet.closes clean (was_open (earlier clean)) in
         let crash : IsHonest g mid → CrashLeaves g mid (λ left. (left ≡ before) ⊎ (left ≡ before)) = λ clean db found.
         let left = leaves_quiet g settled old mid before has quiet clean (was_open (earlier clean)) db found in
         (left.0, left.1, inl left.2) in
-        (before, λ clean. inl refl, tt, search arith)
+        (before, λ clean. inl refl, tt, search (arith, quiet.closes))

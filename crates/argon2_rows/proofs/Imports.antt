@@ -1,6 +1,6 @@
 -- The words that the proofs of this crate use.
 pub use Rattle.std.proofs.Common.{Bool, Err, IsPermutation, IsSome, IsTrue, IsUtf8, List, None, Ok, Option, Ordering, Result, Some, T, [], ap, arith, cond, false}
-pub use Rattle.std.proofs.Common.{get_or, inl, inr, length, lit<, map, not, refl, rules, subst, sym, take, true, ℕ, ◌++◌, ◌<◌, ◌∙◌, ◌∷◌, ◌≡◌, ◌≢◌, ◌⊎◌, ◌↔◌}
+pub use Rattle.std.proofs.Common.{get_or, inl, inr, length, lit<, map, not, refl, rules, subst, sym, take, true, unwrap_or, ℕ, ◌++◌, ◌<◌, ◌∙◌, ◌∷◌, ◌≡◌, ◌≢◌, ◌⊎◌, ◌↔◌}
 pub use Rattle.std.proofs.lemmas.Cmp.{tied_itself, alike_right}
 pub use Rattle.std.proofs.lemmas.List.{get_or-map, length-map, map_more, take-map, take_all, map-id}
 pub use Rattle.std.proofs.lemmas.Slice.Eq.{bytes_eq-Decides}

@@ -16,8 +16,7 @@ Fits view e = breaks_line view e.0 ≡ false
 -- one line before others
 line_then : (view : View) (e : List ℕ × List ℕ) (es : List (List ℕ × List ℕ)) (old mid new : Option (List ℕ)) (how : Written)
     → IsLineOf view e old mid written.All → AreLinesOf view es mid new how → AreLinesOf view (e ∷ es) old new how
-line_then view e es old mid new written.All (first, fits) (later, fit) =
-    (Appends-trans old mid new _ _ first later, All-cons (Fits view) e es fits fit)
+line_then view e es old mid new written.All first later = search (arith, Appends-trans, All-cons)
 line_then view e es old mid new Breaks (first, fits) (before, after, at, is, fit, breaks, later) =
     (e ∷ before, after, at, ap (λ l. e ∷ l) is, All-cons (Fits view) e before fits fit, breaks, Appends-trans old mid new _ _ first later)
 line_then view e es old mid new (Failed why) first later = tt
@@ -38,9 +37,8 @@ pub begin_lines : (view : View) (first now : Shown) (names : Texts) (out : Optio
     → now ≡ with_cursor first 0 (sought (order_of (first.shape 0)) Forward [] (first.trees 0)) → first.trees 0 ≡ rows_of names
     → AreTexts names → IsWriting view now names out out
 begin_lines view first now names out shape is rows texts =
-    let all = from_key-none plain (first.trees 0) in
     let named = each_name IsUtf8 (entries names) (λ k v found. (texts k v (get-entries names k ∙ found)).0) in
-    (entries names, grind arith, named, λ end how lines. lines)
+    (entries names, grind (arith, from_key-none), named, λ end how lines. lines)
 
 module _ (view : View) (now : Shown) (names : Texts) (old mid out : Option (List ℕ)) where
   -- the next row is that of a name

@@ -1,16 +1,15 @@
 -- Maps of names, and their rows in a tree: one more, one less, sought by a name, and read one by one.
 use Rattle.argon2_rows.proofs.Imports.{AllByRecursion, eq_by_cmp, IfSome, IsUtf8, AreTexts, changed, ◌≡◌, ◌≢◌, ℕ, List, Option, Some, None, Bool, true, false, cond, refl, sym, ap, ◌∙◌}
 use Rattle.argon2_rows.proofs.Imports.{bytes_eq-Decides, nat_list_cmp_total, get, get-insert, get-remove, insert, remove, same_entries_map, same_map, slice_cmp-IsAntisymmetric, Text}
-use Rattle.argon2_rows.proofs.Imports.{nat_cmp-IsAntisymmetric, bytes_eq, Texts, arith, [], ◌∷◌, map, T, not, Ordering, All, tied_itself, slice_cmp, get-entries, entries, entries-insert}
-use Rattle.argon2_rows.proofs.Imports.{entries_sorted, find, put, is_sorted, nat_cmp, ordering_then, plain, entry_cmp, Row, column, number, row_cmp, insert_entry, remove_entry, IsStorable}
-use Rattle.argon2_rows.proofs.Imports.{is_int, row_of, rows_of, IsLong, IsTrue, prefix_cmp, Index, Forward, from_key, order_of, sought, View, Advances, with_cursor, IsAfterAll, IsFoundAs}
-use Rattle.argon2_rows.proofs.Imports.{IsIndex, IsAccount, AreLines, ◌↔◌, entries-from_sorted, from_sorted, get-from_sorted, is_gt, alike_right, ⊤, from_key-none, doubt}
+use Rattle.argon2_rows.proofs.Imports.{nat_cmp-IsAntisymmetric, bytes_eq, Texts, arith, [], ◌∷◌, map, T, not, Ordering, tied_itself, slice_cmp, get-entries, entries, entries-insert}
+use Rattle.argon2_rows.proofs.Imports.{entries_sorted, find, put, is_sorted, nat_cmp, ordering_then, plain, entry_cmp, Row, column, row_cmp, insert_entry, remove_entry, IsStorable}
+use Rattle.argon2_rows.proofs.Imports.{row_of, rows_of, IsLong, IsTrue, prefix_cmp, Index, Forward, from_key, order_of, sought, View, Advances, with_cursor, IsAfterAll, IsFoundAs}
+use Rattle.argon2_rows.proofs.Imports.{IsIndex, IsAccount, AreLines, ◌↔◌, entries-from_sorted, from_sorted, get-from_sorted, is_gt, alike_right, ⊤, doubt, unwrap_or}
 use Rattle.std.specs.FinMap.Entries.{below_all}
 use Rattle.sqlite_value.proofs.OrderLemmas.{value_cmp-Text}
 use Rattle.sqlite_value.proofs.KeyLemmas.{entry_cmp_total, entry_cmp-plain}
 use Rattle.std.proofs.lemmas.Map.Text.{is_eq-slice_cmp}
 use Rattle.std.proofs.lemmas.Option.{same_Some}
-use Rattle.std.specs.Float.{NotNan}
 use Rattle.sqlite_trees.proofs.Doubt.{never_clean, no_doubt}
 use Rattle.sqlite_trees.proofs.TreeLemmas.{prefix_cmp-one}
 use Rattle.std.specs.Float.Ieee
@@ -51,9 +50,8 @@ texts_changed names name o texts named good other text has =
 
 one_list : (es fs : List (List ℕ × List ℕ)) → map row_of es ≡ map row_of fs → es ≡ fs
 one_list [] [] one = refl
-one_list [] (f ∷ fs) one = absurd cc
-one_list (e ∷ es) [] one = absurd cc
-one_list (e ∷ es) (f ∷ fs) one = let rest = one_list es fs cc in grind arith
+one_list (e ∷ es) (f ∷ fs) one = grind (arith, one_list es fs)
+one_list es fs one = absurd cc
 
 pub rows_of-once : (a b : Texts) → rows_of a ≡ rows_of b → a ≡ b
 rows_of-once a b one = same_entries_map a b (one_list (entries a) (entries b) one)
@@ -90,21 +88,15 @@ taken k u (e ∷ es) none =
 pub remove_entry-rows_of : (names : Texts) (name u : List ℕ) → get names name ≡ Some u
     → remove_entry plain (row_of (name, u)) (rows_of names) ≡ rows_of (remove names name)
 remove_entry-rows_of names name u has =
-    let gone = remove names name in
     let back = changed-remove names name (Some u) ∙ changed_back names names name (Some u) (λ q far. refl) has in
-    let there = entries-insert nat_list_cmp_total gone name u in
-    let out = (taken name u (entries gone) (sym (get-entries gone name) ∙ get-changed names name None)).0 in
-    cc
+    grind (arith, entries-insert nat_list_cmp_total (remove names name) name u, taken name u, get-entries, get-changed names name None)
 
 -- ---- long rows
 
 -- a row that may not be stored is long
 pub is_long : (reals : ℕ) (row : Row) (e : List ℕ × List ℕ) → row ≡ row_of e → ¬ (IsStorable reals row) → IsLong e
 unfolding Ieee.is_nan
-is_long reals row e is not =
-    let no_int : (c : ℕ) → is_int (column (row_of e) c) ≡ false = λ c. grind arith in
-    let numbers : All (λ v. NotNan (number v)) (row_of e) = λ c d h. grind arith in
-    grind arith
+is_long reals row e is not = grind arith
 
 -- ---- a seek by a name finds its row, or the name has none
 
@@ -116,8 +108,7 @@ row_by_name e k = grind (arith, prefix_cmp-one (Text e.0) (Text e.1 ∷ []) (Tex
 none_below : (j k : List ℕ) (es : List (List ℕ × List ℕ)) → is_gt (order j k) ≡ false → below_all order k es ≡ true
     → find order j es ≡ None
 none_below j k [] upto above = refl
-none_below j k (e ∷ es) upto above =
-    grind (arith, nat_list_cmp_total.trans j k e.0, nat_list_cmp_total.congr j k e.0, none_below j k es upto)
+none_below j k (e ∷ es) upto above = grind (arith, nat_list_cmp_total.trans, nat_list_cmp_total.congr, none_below j k es upto)
 
 -- the row at which a seek by a name stands is that of the name, or the name has none
 met_at : (k : List ℕ) (es : List (List ℕ × List ℕ)) (met : Row) (left : List Row) → T (is_sorted order es)
@@ -147,17 +138,15 @@ module _ (old : View) (names : Texts) {mid : View} {k : List ℕ} {key : Row} (s
   placed : mid.cursors 1 ≡ Some (from_key plain (Text k ∷ []) (rows_of names))
   placed = grind arith
 
-  pub gives : {new : View} {met : Row} → Advances mid new 1 met true → (b : Bool) → (IsTrue b → column met 0 ≡ column key 0)
-      → (column met 0 ≡ column key 0 → IsTrue b) → IsFoundAs names k (Some b) met
-  gives {met = met} moves b same back =
-      let found = met_at k (entries names) met moves.0 (entries_sorted names) (same_Some _ _ (sym placed ∙ moves.1)) in
-      let has = get-entries names k in
-      grind arith
+  pub gives : {new : View} {met : Row} → Advances mid new 1 met true → (b : Bool) → (IsTrue b ↔ column met 0 ≡ column key 0)
+      → IsFoundAs names k (Some b) met
+  gives {met = met} moves b same =
+      let found = met_at k (entries names) met moves.0 (entries_sorted names) in grind (arith, get-entries names k)
 
   pub ends : {new : View} (met : Row) → Advances mid new 1 met false → IsAfterAll names k
   ends met moves =
-      let none = same_Some _ [] (sym placed ∙ moves.0) in
-      let past = λ (n : List ℕ) (upto : is_gt (order k n) ≡ false). get-entries names n ∙ none_past k n (entries names) upto none in
+      let past = λ (n : List ℕ) (upto : is_gt (order k n) ≡ false).
+      get-entries names n ∙ none_past k n (entries names) upto (same_Some _ [] (sym placed ∙ moves.0)) in
       (past k (ap is_gt (tied_itself nat_list_cmp_total k)), λ n later. past n (ap is_gt later))
 
 -- ---- reading the rows of a table one by one
@@ -200,43 +189,22 @@ lowest e (f ∷ fs) row rows at is index more =
 its_names : (last : Row) (rows : List Row) → IsIndex plain rows → Follow last rows
     → (names : Texts) × AreTexts names × AreLines names × (rows_of names ≡ rows)
 its_names last [] index all =
-    let none = λ (k : List ℕ). get-from_sorted {X = List ℕ} order [] k tt in
-    (from_sorted [], λ k v has. grind arith, λ k v has. grind arith, ap (map row_of) (entries-from_sorted order [] tt))
+    (from_sorted [], grind (arith, get-from_sorted), grind (arith, get-from_sorted), ap (map row_of) (entries-from_sorted order [] tt))
 its_names last (row ∷ rows) index ((e, named, good, line, at), new, more) =
     let (names, texts, lines, is) = its_names row rows index.1 more in (
       insert names e.0 e.1,
       texts_changed names e.0 (Some e.1) texts named good,
       λ k v has. grind (arith, get-at names e.0 k (Some e.1), lines k v),
-      ap (map row_of) (entries-insert nat_list_cmp_total names e.0 e.1 ∙ lowest e (entries names) row rows at is index more) ∙ cc,
+      grind (arith, entries-insert nat_list_cmp_total names, lowest e (entries names) row rows),
     )
 
 -- what the rows that are left say of all rows
 pub record IsReading (first now : View) (last : Row) : Type 0 where
   pub same : now ≡ record first { cursors = now.cursors }
-  pub rest : List Row
-  pub left : now.cursors 0 ≡ Some rest
-  pub all : Follow last rest ↔ Follow [] (first.trees 0)
-
-pub begin : (first now : View) (last : Row) → first.shape 0 ≡ Index plain
-    → now ≡ with_cursor first 0 (sought (order_of (first.shape 0)) Forward [] (first.trees 0)) → last ≡ []
-    → IsReading first now last
-begin first now last shape is none = record {
-  same = rw is refl;
-  rest = first.trees 0;
-  left = rw (is, shape) (ap Some (from_key-none plain (first.trees 0)));
-  all = rw none ((λ h. h), (λ h. h));
-}
-
-module _ {first now next : View} {met last : Row} (reading : IsReading first now last) (moves : Advances now next 0 met true) where
-  pub rest_is : reading.rest ≡ met ∷ moves.0
-  rest_is = same_Some _ _ (sym reading.left ∙ moves.1)
-
-  pub step : IsAccount met → (column met 0 ≡ column last 0 → ⊥) → IsReading first next met
-  step is new = let rest = rest_is in grind arith
+  pub all : Follow last (unwrap_or (now.cursors 0) []) ↔ Follow [] (first.trees 0)
 
 -- rows that were read are those of names, unless the disk lied
 pub known : (clean : Bool) (rows : List Row) → (doubt clean ≡ 0 → IsIndex plain rows × Follow [] rows)
     → (names : Texts) × AreTexts names × AreLines names × (doubt clean ≡ 0 → rows_of names ≡ rows)
-known true rows is =
-    let it = its_names [] rows (is (no_doubt true refl)).0 (is (no_doubt true refl)).1 in (it.0, it.1, it.2, λ clean. it.3)
+known true rows is = let it = its_names [] rows (is (no_doubt true refl)).0 (is (no_doubt true refl)).1 in search arith
 known false rows is = let it = its_names [] [] tt tt in (it.0, it.1, it.2, λ clean. absurd (never_clean clean))

@@ -1,10 +1,9 @@
-use Rattle.argon2_rows.proofs.Imports.{arith, ap, ◌∙◌, refl, sym, subst, [], entries, entries_sorted, get-entries, IsHonest, Trees}
-use Rattle.std.proofs.lemmas.Option.{same_Some}
-use Rattle.argon2_rows.proofs.RowLemmas.{Follow, begin, follow_rows, known, rest_is}
+use Rattle.argon2_rows.proofs.Imports.{arith, ap, ◌∙◌, refl, sym, [], entries, entries_sorted, get-entries, IsHonest, Trees, from_key-none}
+use Rattle.argon2_rows.proofs.RowLemmas.{follow_rows, known}
 use Rattle.argon2_rows.proofs.rows.load.Goals as goal
 
 pub loop-init : goal.loop-init
-loop-init g c = search (arith, begin)
+loop-init g c = search (arith, from_key-none)
 
 pub returns-then-not-branch-clause-found : goal.returns-then-not-branch-clause-found
 returns-then-not-branch-clause-found g c ended =
@@ -12,15 +11,15 @@ returns-then-not-branch-clause-found g c ended =
     let (names, texts, lines, at) = known (g.S.Store.view c.next.new.self).is_clean ((g.S.Store.view c.args.store.now).trees 0) (λ clean.
     let first = fresh clean in
     let read = c.loop.invariant.2 (search arith) in
-    let none = same_Some _ _ (sym read.left ∙ (rw c.if-not-branch.true at (c.in_ok-next.ensures.ok clean)).0) in
-    (rw first.indexed at (g.met.S.Store.ordered c.args.store.now first.unbroken 0), read.all.0 (subst (Follow c.loop.last) (sym none) tt))) in
+    let none = (rw c.if-not-branch.true at (c.in_ok-next.ensures.ok clean)).0 in
+    (rw first.indexed at (g.met.S.Store.ordered c.args.store.now first.unbroken 0), grind arith)) in
     (names, lines, (texts, search arith), λ clean. sym (ap (λ (t : Trees). t 0) (fresh clean).settled) ∙ sym (at clean))
 
 pub returns-then-not-is_account-clause-refused : goal.returns-then-not-is_account-clause-refused
 returns-then-not-is_account-clause-refused g c refused clean names texts lines is =
     let settled = ap (λ (t : Trees). t 0) (c.requires (search arith)).settled in
     let reading = c.loop.invariant.2 (search arith) in
-    let rest = rest_is reading (rw c.if-not-branch.false at (c.in_ok-next.ensures.ok clean)) in
+    let moves = rw c.if-not-branch.false at (c.in_ok-next.ensures.ok clean) in
     let all = follow_rows [] (entries names) (entries_sorted names) (λ k v found.
     let has = get-entries names k ∙ found in let good = texts k v has in
     (((k, v), good.0, good.1, lines k v has, refl), λ same. absurd cc)) in

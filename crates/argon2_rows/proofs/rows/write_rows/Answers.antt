@@ -6,7 +6,6 @@ pub loop-init : goal.loop-init
 loop-init g c = record {
   live = c.in_ok-seek.ensures.live;
   same = search arith;
-  schema = search arith;
   quiet = search arith;
   lines = λ clean names texts sees. begin_lines _ _ _ names _ (search arith)
       (rw c.clear.ensures at (c.in_ok-seek.ensures.ok clean)) (search arith) texts;
@@ -16,7 +15,6 @@ pub loop-preserved : goal.loop-preserved
 loop-preserved g c = record {
   live = search rules;
   same = search arith;
-  schema = search arith;
   quiet = search arith;
   lines = λ clean names texts sees.
       rw (c.in-Some-All.is, c.in-Some-All.field-0-is) at (next_row _ _ names _ _ _ _ _ (c.loop.invariant.lines (search arith) names texts sees)

@@ -1,15 +1,10 @@
-use Rattle.argon2_rows.proofs.Imports.{◌<◌, ◌≡◌, arith, length, ℕ, List, [], refl, map, get, get_or, sym, Bor, get_or-map, length-map, map_more, StoredText, ◌∙◌, ap, take, take-map, take_all, Any, entry_of, None, Some, Ok}
+use Rattle.argon2_rows.proofs.Imports.{◌<◌, ◌≡◌, arith, length, ℕ, List, refl, map, get, get_or-map, length-map, map_more, take, take-map, take_all, Any, entry_of, None, Some, Ok}
 use Rattle.argon2_rows.proofs.Imports.{IsLong, IsTrue, Texts, AddsAll, AreTexts, HasNoneAfter, IsHonest, Sees, Writes, changed, nat_list_cmp_total, tied_itself, bytes_eq-Decides}
 use Rattle.argon2_rows.proofs.AddLemmas.{add_last}
 use Rattle.argon2_rows.proofs.RowLemmas.{get-at, texts_changed}
 use Rattle.argon2_rows.proofs.TableLemmas.{err_is, keeps_index, writes_then}
 use Rattle.argon2_rows.proofs.table.add_each.Goals as goal
 use Rattle.argon2_rows.proofs.table.add_each.Goals.{After-insert, then-is_last, else-is_last, then-not-is_lt+in_ok-found+in_default, else-not-is_lt}
-
-some_long : (new : List (Bor (List ℕ) × StoredText)) (i : ℕ) (e : Bor (List ℕ) × StoredText) → i < length new
-    → get_or new i e ≡ e → IsLong (entry_of e) → Any IsLong (map entry_of new)
-some_long new i e within is long =
-    (i, entry_of e, rw length-map within, get_or-map entry_of new i e (entry_of e) within ∙ ap entry_of is, long)
 
 -- no name after a new one has a text if none had one
 none_after_new : (before : Texts) (name text : List ℕ) → HasNoneAfter before name → HasNoneAfter (changed before name (Some text)) name
@@ -41,11 +36,12 @@ added : (g : _) (c : After-insert g) (before : Texts) → AreTexts before
 added g c before texts sees =
     let (mid, fine, all, wrote) = c.loop-k.invariant.1 before texts sees in
     let (read, new) = looked g c mid (search arith) (λ is clean. (all clean).1 is) in
-    let long = some_long c.args.new.now c.loop-k.k _ c.loop-k-test.true (sym c.index-new-k.is) in (
+    let within : c.loop-k.k < length c.args.new.now = c.loop-k-test.true in (
       mid,
       fine,
       writes_then (writes_then {R = ⊥} wrote read (λ never. never))
-          (rw c.as_str.ensures at (c.insert.ensures.writes mid (λ clean. (new clean).0))) long,
+          (rw c.as_str.ensures at (c.insert.ensures.writes mid (λ clean. (new clean).0)))
+          (λ long. (c.loop-k.k, entry_of c.index-new-k.result, search (arith, length-map), grind (arith, get_or-map), long)),
       λ clean. let (none, last) = new clean in ((all (omega (arith, clean, read.quiet.clean))).0, none, last),
     )
 
@@ -64,8 +60,7 @@ pub returns-in-Some-true : goal.returns-in-Some-true
 returns-in-Some-true g c before texts sees =
     let (mid, fine, all, wrote) = c.loop-k.invariant.1 before texts sees in
     let within : c.loop-k.k < length c.args.new.now = c.loop-k-test.true in
-    let found = c.in_ok-found.ensures.found mid in
-    let is = get_or-map entry_of c.args.new.now c.loop-k.k c.index-new-k.result ([], []) within in (
+    let found = c.in_ok-found.ensures.found mid in (
       mid,
       fine,
       writes_then wrote (search arith) (λ never. absurd never),
@@ -73,7 +68,7 @@ returns-in-Some-true g c before texts sees =
         mid,
         rw take-map (all (omega (arith, clean, c.find.ensures.quiet.clean))).0,
         rw length-map within,
-        rw (is, ← c.index-new-k.is) (grind arith),
+        grind (arith, get_or-map entry_of c.args.new.now c.loop-k.k c.index-new-k.result),
       ),
     )
 
