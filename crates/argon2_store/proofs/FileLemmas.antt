@@ -51,7 +51,7 @@ adds_made (e ∷ es) before after (none, rest) = rw none (adds_made es _ after r
 pub taken_made : (es : List (List ℕ × List ℕ)) (before : Texts) (k : ℕ) → IsFirstTaken before es k
     → names_after (additions es) before ≡ Err NameTaken
 taken_made [] before k (mid, adds, within, has) = absurd (omega (arith, within))
-taken_made (e ∷ es) before zero (mid, is, within, has) = let there = subst (λ (m : Texts). IsSome (get m e.0)) is has in grind arith
+taken_made (e ∷ es) before zero (mid, is, within, has) = grind arith
 taken_made (e ∷ es) before (suc k) (mid, (none, adds), within, has) =
     rw none (taken_made es _ k (mid, adds, omega (arith, within), has))
 
@@ -64,7 +64,7 @@ module _ {S : Type 0} {g : Ghosts S} (settled : Settled g) (old : AccountFile S 
 
   module _ (shut : b ≡ false) where
     pub is_open : IsTrusted old → IsOpen g (database_of old)
-    is_open clean = true_from_ne_false _ (iff_false (tests clean) shut)
+    is_open clean = grind arith
 
     -- a call that reads an open file
     pub reads_of : {X : Type 0} (new : AccountFile S g) → (done : Result X StoreError)
@@ -72,7 +72,6 @@ module _ {S : Type 0} {g : Ghosts S} (settled : Settled g) (old : AccountFile S 
         → (r : Result X FileError) → r ≡ read_of done → Stays (error_of r) names old new
     reads_of new done names has (had, opens, why, quiet) r is =
         let left = leaves_quiet g settled (database_of old) (database_of new) names has.1 quiet in
-        let never = λ (clean : IsTrusted old). iff_false (tests clean) shut in
         let was_open = is_open in
         let due_now = λ (clean : IsTrusted new). let was : IsTrusted old = omega (arith, clean, quiet.clean) in
         let told : IfErr done (λ e. Cause (g.view (database_of old)) (HasFailed g (database_of old) (database_of new)) ⊥ e
@@ -115,10 +114,9 @@ module _ {S : Type 0} {g : Ghosts S} {old mid : AccountFile S g} {before : Texts
       → (IsTrusted new → IfErr r (HasCause (IsClosed old) (HasFailedBy old new) (Any (IsTooLong before) edits)))
       → Makes edits r old new before after
   ends {new = new} change r after has answers refused crash cause =
-      let closed : IsTrusted old → IsClosed old → (r ≡ Err Closed) × (database_of new ≡ database_of old) = λ clean h.
-      let shut = reads.closed clean h in absurd cc in
-      let closes : IsTrusted new → IsOpen g (database_of new) ⊎ HasFailed g (database_of old) (database_of new) = λ clean.
-      let yet = change.closes clean in let counts = reads.quiet.counts in grind arith in
+      let closed : IsTrusted old → IsClosed old → (r ≡ Err Closed) × (database_of new ≡ database_of old) = grind (arith, reads.closed) in
+      let closes : IsTrusted new → IsOpen g (database_of new) ⊎ HasFailed g (database_of old) (database_of new) =
+      grind (arith, change.closes, reads.quiet.counts) in
       search (arith, change.honest)
 
   -- edits are made, or the names stay as they were
@@ -163,13 +161,8 @@ module _ {S : Type 0} {g : Ghosts S} {edit : Edit} {old mid : AccountFile S g} (
       → ((closed long : Type 0) (fault : StoreError → Type 0) → IfErr r (HasCause closed fault long))
       → Serves (edit ∷ []) r old mid
   unwritten r answers cause before has =
-      let read = reads before has in (
-        before,
-        ends_with r read.has read.quiet read.left
-            (λ clean. answers before (shows before read.has clean ∙ ap (option_map string_bytes) is))
-            (λ clean is. let shut = read.closed clean is in absurd cc)
-            (λ clean. cause (IsClosed old) (Any (IsTooLong before) (edit ∷ [])) (HasFailedBy old mid)),
-      )
+      let read = reads before has in
+      (before, ends_with r read.has read.quiet read.left (grind arith) (grind arith) (search (arith, cause)))
 
   -- one that is refused
   pub refuses : {e : FileError} → refusal edit (option_map string_bytes o) ≡ Some e → Serves (edit ∷ []) (Err e) old mid
@@ -207,7 +200,8 @@ module _ {S : Type 0} {g : Ghosts S} {edit : Edit} {old mid : AccountFile S g} (
 pub cannot_serve : {S : Type 0} {g : Ghosts S} {edits : List Edit} {old mid : AccountFile S g} {e : FileError}
     {r : Result (Unit {0}) FileError} → NamesStay (Some e) old mid → IsErrAnd r (λ f. f ≡ e) → Serves edits r old mid
 cannot_serve {e = e} stays is before has =
-    let reads = stays before has in let never = reads.of_file in let shut = reads.closed in let why = reads.cause in
-    rw (err_is _ _ is) (before, ends_with (Err e) reads.has reads.quiet reads.left (grind arith) (grind arith) (grind arith))
+    let reads = stays before has in
+    let ends = ends_with (Err e) reads.has reads.quiet reads.left in
+    rw (err_is _ _ is) (before, ends (grind (arith, reads.of_file)) (grind (arith, reads.closed)) (grind (arith, reads.cause)))
 
 pub ruleset answers = (on_read, of_file, writes_at, shape_of)

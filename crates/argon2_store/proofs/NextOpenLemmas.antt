@@ -1,7 +1,7 @@
 -- What an open finds after opens that failed, and what the next one finds then.
 use Rattle.argon2_store.proofs.Imports.{◌≡◌, ℕ, List, [], ◌∷◌, inl, inr, refl, sym, ap, ap₂, subst, subst₂, ◌∙◌, arith, ∥∥₁_elim, ∥∥₁_map, Row, outcomes, seen_image, PageMap, plain, Wanted}
 use Rattle.argon2_store.proofs.Imports.{AreWhole, Image, IsBlankFile, Recovers, RecoversAs, catalog_tree, Trees, state, FileStore, FoundIn, IsUnstarted, MayHave, IsSoundFile}
-use Rattle.argon2_store.proofs.Imports.{StandsFor, account, ◌≤◌, length, slice_index, unwrap_or, Some, cases_eq, part, IsIgnored, Replays, pages_after}
+use Rattle.argon2_store.proofs.Imports.{StandsFor, account, ◌≤◌, length, slice_index, unwrap_or, cases_eq, part, IsIgnored, Replays}
 use Rattle.argon2_store.proofs.Imports.{part_within, slice_index-part, range_with_len, length-map, reserved, sealed, stored_size, length-sealed, recovers_once}
 use Rattle.argon2_store.proofs.Imports.{Index, recovers, same_listing, Texts, HoldsNames, IsAfterOpens, LeavesNames, HoldsTable, Table, catalog, rows_of-once}
 use Rattle.sqlite_disk.specs.declared.Disk.{Ghosts}
@@ -12,7 +12,7 @@ use Rattle.sqlite_pool.specs.Header.{first_page}
 use Rattle.std.proofs.lemmas.List.FromFn.{length-range_with_len}
 use Rattle.std.specs.Coded.{Coded-set, coded_list}
 use mathlib.Core.HLevel.{⊥_prop}
-use base.Stored.{Gv, gcons, gnil, gnum, num}
+use base.Stored.{Gv, gcons, gnil, gnum}
 use Rattle.sqlite_pool.specs.File.{in_use, unlocked}
 use Rattle.sqlite_pool.specs.FreeList.{live}
 use Rattle.sqlite_pool.proofs.PoolLemmas.{none_of}
@@ -27,19 +27,15 @@ use Rattle.sqlite_value.specs.contracts.row.Row as row
 
 -- ---- an equation that can't be false holds
 
-same_number : (m n : ℕ) → ¬ ¬ (m ≡ n) → m ≡ n
-same_number m n h = elim (cases_eq m n) [ inl same ↦ same | inr other ↦ absurd (h other) ]
-
 stable : (a b : Gv) → ¬ ¬ (a ≡ b) → a ≡ b
 stable gnil gnil h = refl
-stable (gnum m) (gnum n) h = ap gnum (same_number m n (λ never. h (λ e. never (ap num e))))
+stable (gnum m) (gnum n) h = grind arith
 stable (gcons a d) (gcons b c) h = ap₂ gcons (stable a b (λ never. h (λ e. never cc))) (stable d c (λ never. h (λ e. never cc)))
 stable a b h = absurd (h (λ e. cc))
 
 rows_stable : (a b : List Row) → ¬ ¬ (a ≡ b) → a ≡ b
 rows_stable a b h =
-    let c = coded_list row.the_row.coded in
-    c.inj a b (stable (c.code a) (c.code b) (λ never. h (λ e. never (ap c.code e))))
+    let c = coded_list row.the_row.coded in c.inj a b (stable _ _ (λ never. h (λ e. never (ap c.code e))))
 
 -- ---- the size of a page
 
@@ -49,14 +45,13 @@ once : (img : Image) (a b : ℕ) (p q : PageMap) → Recovers a img p → Recove
 once img a b p q found also large big sound whole =
     let first = adopts_of a img p found in
     let second = adopts_of b img q also in
-    let stored : stored_size a ≡ stored_size b = same_number _ _ (λ never.
+    let apart : ¬ ¬ (stored_size a ≡ stored_size b) = λ never.
     let ignored = λ (read : ¬ IsIgnored img.log).
     never (sym (size_by_log a img p first read) ∙ size_by_log b img q second read) in
-    ignored (λ none. never (sym (size_by_file a img p first large sound none) ∙ size_by_file b img q second big whole none))) in
-    let one = reserved_word a img p first large sound in
-    let two = reserved_word b img q second big whole in
+    ignored (λ none. never (sym (size_by_file a img p first large sound none) ∙ size_by_file b img q second big whole none)) in
+    let stored : stored_size a ≡ stored_size b = grind arith in
     let pages = raw_once _ img _ _ (rw stored at first.found) second.found in
-    let size : a ≡ b = grind arith in
+    let size : a ≡ b = grind (arith, reserved_word a img p first, reserved_word b img q second) in
     (size, recovers_once b img p q (rw size at found) also)
 
 -- ---- the table
@@ -74,7 +69,7 @@ module _ (w : Wanted) (rest : List Wanted) (same : listed_from 0 (w ∷ rest) �
   root-same : (entries : List Row) → root_in entries w ≡ root_in entries account
   unfolding describes is_about
   root-same [] = refl
-  root-same (entry ∷ entries) = let is = shape in let later = root-same entries in grind arith
+  root-same (entry ∷ entries) = grind (arith, shape, root-same entries)
 
 -- the first tree is the table
 first_tree : (size : ℕ) (schema : List Wanted) (pages : PageMap) → listed_from 0 schema ≡ listed_from 0 (account ∷ [])
@@ -90,8 +85,7 @@ unfolding roots_of in_use live unlocked
 no_table size [] pages same file none = absurd cc
 no_table size (w ∷ rest) pages same file none =
     let kept = rw (shape w rest same, none) at (file.db.trees.kept 1) in
-    let page = (file.db.trees.laid 1).nodes 0 (stored_root_live kept.1.stored) in
-    let sound = file.sound in grind (arith, none_of)
+    let page = (file.db.trees.laid 1).nodes 0 (stored_root_live kept.1.stored) in grind (arith, none_of, file.sound)
 
 -- ---- from one open to the next
 
@@ -104,10 +98,10 @@ front : (size : ℕ) (img : Image) (q : PageMap) → raw.Recovers size img q →
 front size img q found whole some none =
     let (page, is) = some_value (q 1) whole.first in
     let zero = replays_once size img.log found.frames 0 found.replays none in
-    let alone : pages_after size img.log img.db 0 1 ≡ Some page = rw (zero, is) at (ap (λ (p : PageMap). p 1) found.gives) in
+    let alone = rw (zero, is) at (ap (λ (p : PageMap). p 1) found.gives) in
     let head : part img.db 0 size ≡ page = search (arith, page_from_pages size img.log img.db 0 1 page alone) in
     let long = part_within img.db 0 size (omega arith) (ap length head ∙ whole.sized 1 page is) in
-    let first = slice_index-part img.db 0 size 0 (omega arith) in grind arith
+    grind (arith, slice_index-part img.db 0 size 0)
 
 -- a sound file of any size of a page begins with the S of SQLite's magic, also as pages of 4096 bytes
 magic : (size : ℕ) (img : Image) (pages : PageMap) → Recovers size img pages → 504 ≤ size → IsSoundFile size pages
@@ -161,10 +155,7 @@ Near-prop : (first : List Row) (img : Image) → IsProp (Near first img)
 Near-prop first img = hlevel same_rows
 
 near_stable : (first : List Row) (img : Image) → ¬ ¬ Near first img → Near first img
-near_stable first img h = (
-  λ rows found. rows_stable rows first (λ never. h (λ near. never (near.0 rows found))),
-  λ some q found whole never. h (λ near. near.1 some q found whole never),
-)
+near_stable first img h = (λ rows found. rows_stable rows first (grind arith), grind arith)
 
 near_rows : (img : Image) (first : List Row) → MayHave img first → Near first img
 near_rows img first (inl (size, schema, pages, allowed, recs, file, list, is)) =
@@ -180,9 +171,9 @@ near_rows img first (inl (size, schema, pages, allowed, recs, file, list, is)) =
 near_rows img first (inr (unbegun, none)) = (
   λ rows found. elim found [
     | inl there ↦ absurd (∥∥₁_elim there.2 ⊥_prop (λ file. begun 4096 _ img there.0 (omega arith) there.1 file refl unbegun))
-    | inr also ↦ also.1 ∙ sym none
+    | inr also ↦ cc
   ],
-  λ some _ _ _. absurd (some none),
+  search,
 )
 
 module _ (first : List Row) (old new : Image) (near : Near first old) where

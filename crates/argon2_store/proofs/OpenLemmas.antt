@@ -106,15 +106,18 @@ module _ {D : Type 0} {g : Ghosts D} where
     probed b size sized probe new clean = search (arith, image_is, is_clean)
 
     pub unharmed : (state_of it).page_size ≡ 4096 → (end : Unopened D g) (new : D × D) → new ≡ files_of end
-        → ((state_of it).page_size ≡ 4096 → IsTrue (state_of end).is_clean → (left : Image) → (state_of end).may_leave left
-        → StandsFor (state_of it).may_leave (image it) left)
-        → AreUnharmed g (log, db) new
+        → ((state_of it).page_size ≡ 4096 → IsTrue (state_of end).is_clean → IsTrue (state_of it).is_clean
+        × ((left : Image) → (state_of end).may_leave left → StandsFor (state_of it).may_leave (image it) left))
+        → (AreClean g new.0 new.1 → AreClean g log db) × AreUnharmed g (log, db) new
     unfolding pool_state pool_files
-    unharmed sized end new closed stands clean left may =
-        let within : (l : Image) → (state_of it).may_leave l → outcomes g log db l = search arith in
-        let left_so = may_leave end.pool new (sym closed) clean left may in
-        subst (λ i. StandsFor (outcomes g log db) i left) image_is
-        (stands_for _ _ _ left within (stands sized (clean_if_left end.pool left left_so) left left_so))
+    unharmed sized end new closed stands = (
+      λ clean. was_clean (stands sized (is_honest end.pool new (sym closed) clean)).0,
+      λ clean left may.
+          let within : (l : Image) → (state_of it).may_leave l → outcomes g log db l = search arith in
+          let left_so = may_leave end.pool new (sym closed) clean left may in
+          subst (λ i. StandsFor (outcomes g log db) i left) image_is
+          (stands_for _ _ _ left within ((stands sized (clean_if_left end.pool left left_so)).1 left left_so)),
+    )
 
 -- Whatever a crash leaves of a store that lists the table alone is a table with the rows that it recovers to.
 pub left_table : {D : Type 0} {g : Ghosts D} (it : FileStore D g) → ((db : Trees) → recovers it db → db catalog_tree ≡ catalog)

@@ -1,7 +1,7 @@
 -- What calls make of a file, and what an open finds after them.
-use Rattle.argon2_store.proofs.Imports.{arith, ◌≡◌, ◌⊎◌, ℕ, List, [], ◌∷◌, ◌++◌, Result, Ok, Err, inl, inr, refl, sym, subst, ◌∙◌, ap, append_assoc, cases_Bool, empty, get, ∥∥₁_elim}
+use Rattle.argon2_store.proofs.Imports.{arith, ◌≡◌, ◌⊎◌, ℕ, List, [], ◌∷◌, ◌++◌, Result, Ok, Err, inl, inr, refl, sym, subst, ◌∙◌, append_assoc, cases_Bool, empty, get, ∥∥₁_elim}
 use Rattle.argon2_store.proofs.Imports.{∥∥₁_map, flat_map, SeenMayStay, settled_at, FileStore, Trees, Ghosts, bytes_eq-Decides, Answers, Texts, IsClosed, database_of, Edit}
-use Rattle.argon2_store.proofs.Imports.{changed, gives, left_by, names_after, name_of, is_refusal, AreEventsOf, AreMade, Did, Does, EndsRun, FileEvent, FileCall, IsFoundAfter, IsLate}
+use Rattle.argon2_store.proofs.Imports.{gives, left_by, names_after, name_of, is_refusal, AreEventsOf, AreMade, Did, Does, EndsRun, FileEvent, FileCall, IsFoundAfter, IsLate}
 use Rattle.argon2_store.proofs.Imports.{IsLateOf, IsShutOut, FileRun, events_of, makes, text_by, over_file, reads, IsHonest, IsOpen, CrashLeaves, AccountFile, FileError, HasNames, IsReady}
 use Rattle.argon2_store.proofs.Imports.{Settled, IsTableOf, get-at, rows_of-once, get-empty}
 use Rattle.argon2_store.proofs.NextOpenLemmas.{next_open}
@@ -19,18 +19,16 @@ texts_after : (edits : List Edit) (names after : Texts) → names_after edits na
     → get after name ≡ left_by name edits (get names name)
 texts_after [] names after is name = cc
 texts_after (edit ∷ edits) names after is name =
-    let given = gives edit (get names (name_of edit)) in
-    let at = get-at names (name_of edit) name given in
-    grind (arith, texts_after edits (changed names (name_of edit) given) after, at, bytes_eq-Decides name (name_of edit))
+    let at = get-at names (name_of edit) name (gives edit (get names (name_of edit))) in
+    grind (arith, texts_after edits, at, bytes_eq-Decides name (name_of edit))
 
 -- the text of each name is what its edits left
 pub texts_of_events : (events : List FileEvent) (names : Texts) → AreMade empty events names → (name : List ℕ)
     → get names name ≡ text_by name events
 texts_of_events [] names is name = rw (is, get-empty)
 texts_of_events ((edits, Ok x) ∷ older) names (before, earlier, step) name =
-    texts_after edits before names step name ∙ ap (left_by name edits) (texts_of_events older before earlier name)
-texts_of_events ((edits, Err e) ∷ older) names (before, earlier, step) name =
-    ap (λ (m : Texts). get m name) step.1 ∙ texts_of_events older before earlier name
+    grind (arith, texts_after edits before names step name, texts_of_events older before earlier name)
+texts_of_events ((edits, Err e) ∷ older) names (before, earlier, step) name = grind (arith, texts_of_events older before earlier name)
 
 -- ---- calls
 

@@ -1,7 +1,7 @@
 use Rattle.argon2_store.proofs.Imports.{arith, rules, [], ◌∷◌, ap, inl, inr, ◌≡◌, sym, length, subst, subst₂, ◌∙◌, IsTrue, ∥∥₁_map, Recovers, recovers_once, clean_of}
 use Rattle.argon2_store.proofs.Imports.{schema_of, state, view, kept_schema, state_of, image, account, Image, IsUnstarted, FoundIn, nil_from_length, refl, wanted_by, ListsOne}
 use Rattle.sqlite_store.specs.Unopened as below
-use Rattle.argon2_store.proofs.OpenLemmas.{after, as_before, bare, fresh, image_is, is_honest, made, probed, unharmed, was_clean}
+use Rattle.argon2_store.proofs.OpenLemmas.{after, as_before, bare, fresh, image_is, made, probed, unharmed, was_clean}
 use Rattle.argon2_store.proofs.opening.open_files.Goals as goal
 use Rattle.argon2_store.proofs.opening.open_files.Goals.{After-create, then-not-is_new+in-Ok-read_catalog+else-len-gt-LISTED+else-len-eq-LISTED, else-not-is_new}
 
@@ -36,31 +36,27 @@ looked g c = elim c.if-not-is_new.branch [
 ]
 
 pub returns-in-Err-read_catalog-clause-left : goal.returns-in-Err-read_catalog-clause-left
-returns-in-Err-read_catalog-clause-left g c = (
-  λ clean. search (arith, was_clean, is_honest),
-  unharmed c.probe_blank.ensures.log c.probe_blank.ensures.db c.in-Ok-new-2.unopened (search rules) (search rules) c.read_catalog.new.self _
-      c.close-in-Err-read_catalog.ensures (λ sized clean left may.
-      as_before c.in-Ok-new-2.unopened sized left ((c.read_catalog.ensures.kept clean).crash left may)),
-)
+returns-in-Err-read_catalog-clause-left g c =
+    unharmed c.probe_blank.ensures.log c.probe_blank.ensures.db c.in-Ok-new-2.unopened (search rules) (search rules) c.read_catalog.new.self _
+    c.close-in-Err-read_catalog.ensures (λ sized clean.
+    (search arith, λ left may. as_before c.in-Ok-new-2.unopened sized left ((c.read_catalog.ensures.kept clean).crash left may)))
 
 pub returns-then-len-gt-LISTED-clause-left : goal.returns-then-len-gt-LISTED-clause-left
-returns-then-len-gt-LISTED-clause-left g c = (
-  λ clean. search (arith, was_clean, is_honest),
-  unharmed c.probe_blank.ensures.log c.probe_blank.ensures.db c.in-Ok-new-2.unopened (search rules) (search rules) c.read_catalog.new.self _
-      c.close-then-len-gt-LISTED.ensures (λ sized clean left may.
-      as_before c.in-Ok-new-2.unopened sized left ((c.read_catalog.ensures.kept clean).crash left may)),
-)
+returns-then-len-gt-LISTED-clause-left g c =
+    unharmed c.probe_blank.ensures.log c.probe_blank.ensures.db c.in-Ok-new-2.unopened (search rules) (search rules) c.read_catalog.new.self _
+    c.close-then-len-gt-LISTED.ensures (λ sized clean.
+    (search arith, λ left may. as_before c.in-Ok-new-2.unopened sized left ((c.read_catalog.ensures.kept clean).crash left may)))
 
 pub returns-in-Err-open-clause-left : goal.returns-in-Err-open-clause-left
-returns-in-Err-open-clause-left g c = (
-  λ clean. search (arith, was_clean, is_honest),
-  unharmed c.probe_blank.ensures.log c.probe_blank.ensures.db c.in-Ok-new-2.unopened (search rules) (search rules) c.in-Err-open.left _
-      c.close-in-Err-open.ensures (λ sized clean left may.
-      let was = c.in-Err-open.ensures.falls clean in
-      let kept = c.read_catalog.ensures.kept was in
-      as_before c.in-Ok-new-2.unopened sized left (after _ _ _ (c.in-Ok-read_catalog.ensures.ok was) kept.size kept left
-      ((c.in-Err-open.ensures.unharmed clean).crash left may))),
-)
+returns-in-Err-open-clause-left g c =
+    unharmed c.probe_blank.ensures.log c.probe_blank.ensures.db c.in-Ok-new-2.unopened (search rules) (search rules) c.in-Err-open.left _
+    c.close-in-Err-open.ensures (λ sized clean.
+    let was = c.in-Err-open.ensures.falls clean in
+    let kept = c.read_catalog.ensures.kept was in (
+      search arith,
+      λ left may. as_before c.in-Ok-new-2.unopened sized left (after _ _ _ (c.in-Ok-read_catalog.ensures.ok was) kept.size kept left
+          ((c.in-Err-open.ensures.unharmed clean).crash left may)),
+    ))
 
 pub returns-in-Ok-open-clause-opened : goal.returns-in-Ok-open-clause-opened
 returns-in-Ok-open-clause-opened g c clean =
@@ -97,13 +93,13 @@ returns-in-Ok-create-clause-opened g c clean =
 
 pub returns-in-Err-create-clause-left : goal.returns-in-Err-create-clause-left
 returns-in-Err-create-clause-left g c =
-    let (wants, bare) = looked g (goal.at.returns-in-Err-create-clause-left g c).After-create in (
-      λ clean. search (arith, was_clean, is_honest),
-      unharmed c.probe_blank.ensures.log c.probe_blank.ensures.db c.in-Ok-new-2.unopened (search rules) (search rules) c.in-Err-create.left _
-          c.close-in-Err-create.ensures (λ sized clean left may.
-          let (was, size, none, before) = bare (c.in-Err-create.ensures.falls clean) in
-          elim ((c.in-Err-create.ensures.unharmed clean).crash left may) [
-            | inl is ↦ as_before c.in-Ok-new-2.unopened sized left (before left is)
-            | inr way ↦ made c.in-Ok-new-2.unopened c.if-not-is_new.unopened sized size left wants none way
-          ]),
-    )
+    let (wants, bare) = looked g (goal.at.returns-in-Err-create-clause-left g c).After-create in
+    unharmed c.probe_blank.ensures.log c.probe_blank.ensures.db c.in-Ok-new-2.unopened (search rules) (search rules) c.in-Err-create.left _
+    c.close-in-Err-create.ensures (λ sized clean.
+    let (was, size, none, before) = bare (c.in-Err-create.ensures.falls clean) in (
+      was,
+      λ left may. elim ((c.in-Err-create.ensures.unharmed clean).crash left may) [
+        | inl is ↦ as_before c.in-Ok-new-2.unopened sized left (before left is)
+        | inr way ↦ made c.in-Ok-new-2.unopened c.if-not-is_new.unopened sized size left wants none way
+      ],
+    ))
