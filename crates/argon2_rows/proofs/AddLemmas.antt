@@ -33,24 +33,16 @@ any_order = along_permutation Reorders (λ es before after all. all)
     (λ es fs gs first then before after all. then before after (first before after all))
 
 module _ {S : Type 0} (g : Ghosts S) where
-  -- a change is the same after a call that changed nothing, and may have more causes
-  changes_later : {a b c : S} {x y : Texts} {P Q : Type 0} {r : Result (Unit {0}) StoreError} → StaysQuiet g a b
-      → (IsHonest g b → (g.view b).is_broken ≡ false) → (P → Q) → Changes g b c x y P r → Changes g a c x y Q r
-  changes_later quiet sound more change = search (arith, cause_map)
-
   -- names that are written in another order
   pub reordered : (old new : S) (before : Texts) (xs ys : List (Bor (List ℕ) × StoredText)) (done : Result (Unit {0}) StoreError)
       → (IsHonest g old → IsOpen g old) → IsPermutation xs ys → HasRows g old before
       → AddsNames g old new before (map entry_of ys) done → AddsNames g old new before (map entry_of xs) done
   reordered old new before xs ys done was_open moved has (after, may, all, change) =
       let back = IsPermutation-map entry_of ys xs (IsPermutation-sym xs ys moved) in
-      let moves = any_order _ _ back before after in (
-        after,
-        λ clean. grind arith,
-        on_ok_weaker done (λ f clean. moves (f clean)) all,
-        changes_later (quiet_itself g old) (λ clean. has.1.sound clean (was_open clean)) (λ (k, e, within, is, long).
-            let (j, there, at) = Contains-permutation _ _ e back (k, within, is) in (j, e, there, at, long)) change,
-      )
+      let moves = any_order _ _ back before after in
+      let more : Any IsLong (map entry_of ys) → Any IsLong (map entry_of xs) = λ (k, e, within, is, long).
+      let (j, there, at) = Contains-permutation _ _ e back (k, within, is) in (j, e, there, at, long) in
+      (after, λ clean. grind arith, on_ok_weaker done (λ f clean. moves (f clean)) all, search (arith, cause_map))
 
   -- names that are not all written are taken back
   pub undone : (old mid new : S) {before after : Texts} (es : List (List ℕ × List ℕ)) (error : AddError) → Settled g

@@ -3,7 +3,7 @@
 
 ghost use Rattle.std.specs.Prelude.{◌≡◌, Any, None, Some, IsUtf8, map};
 ghost use Rattle.sqlite_trees.specs.View.{KeepsSchema};
-ghost use Rattle.argon2_rows.specs.Names.{AddsEach, Texts, changed, entry_of, get};
+ghost use Rattle.argon2_rows.specs.Names.{AddsEach, Store, Texts, changed, entry_of, get};
 ghost use Rattle.argon2_rows.specs.Rows.{AreTexts};
 ghost use Rattle.argon2_rows.specs.Table.{EndsRead, Finishes, HasBegun, IsHonest, IsKept, IsLong, Sees, StaysQuiet, Writes, written_of, plain, Index};
 
@@ -23,8 +23,6 @@ pub enum AddError {
 }
 
 impl From<StoreError> for AddError {
-    ghost use Rattle.argon2_rows.specs.declared.table.AddError.TheVariants.{Store};
-
     ghost from_gives = { λ e error. error ≡ Store e };
 
     fn from(error: StoreError) -> AddError {

@@ -1,7 +1,8 @@
 //! Why calls on an account file are refused.
 
 ghost use Rattle.std.specs.Prelude.{◌≡◌, Some};
-ghost use Rattle.argon2_store.specs.Errors.{IsOfDatabase, IsOfPath, call_error, file_error_text, files_error, is_refusal, lines_by, log_error, file_error, open_error_text, path_error, read_of, store_error};
+ghost use Rattle.argon2_store.specs.Errors.{IsOfDatabase, IsOfPath, OutOfMemory, call_error, file_error_text, files_error, is_refusal, lines_by, log_error, file_error, open_error_text, path_error, read_of, store_error};
+ghost use Rattle.argon2_store.specs.declared.error.OpenError.TheVariants as no;
 
 use argon2_rows::Written;
 use sqlite_std_file::OpenError as PathError;
@@ -71,8 +72,6 @@ impl fmt::Display for FileError {
 impl std::error::Error for FileError {}
 
 impl From<AllocError> for FileError {
-    ghost use Rattle.argon2_store.specs.declared.error.FileError.TheVariants.{OutOfMemory};
-
     ghost from_gives = { λ _ error. error ≡ OutOfMemory };
 
     fn from(_: AllocError) -> FileError {
@@ -182,9 +181,7 @@ impl fmt::Display for OpenError {
 impl std::error::Error for OpenError {}
 
 impl From<AllocError> for OpenError {
-    ghost use Rattle.argon2_store.specs.declared.error.OpenError.TheVariants.{OutOfMemory};
-
-    ghost from_gives = { λ _ error. error ≡ OutOfMemory };
+    ghost from_gives = { λ _ error. error ≡ no.OutOfMemory };
 
     fn from(_: AllocError) -> OpenError {
         OpenError::OutOfMemory
@@ -192,9 +189,7 @@ impl From<AllocError> for OpenError {
 }
 
 impl From<io::Error> for OpenError {
-    ghost use Rattle.argon2_store.specs.declared.error.OpenError.TheVariants.{Path};
-
-    ghost from_gives = { λ e error. error ≡ Path e };
+    ghost from_gives = { λ e error. error ≡ no.Path e };
 
     fn from(error: io::Error) -> OpenError {
         OpenError::Path(error)
