@@ -1,12 +1,12 @@
 -- Names to which several are added.
 use Rattle.argon2_rows.proofs.Imports.{◌≡◌, ℕ, List, [], ◌∷◌, ◌++◌, false, Some, Result, Ok, Err, refl, Io, arith, inl, map, Bor, Any, StoreError, Ghosts, Texts, AddsAll, AddsEach, AddsNames, changed, get, None}
-use Rattle.argon2_rows.proofs.Imports.{WritesAll, IsPermutation, entry_of, Changes, bytes_eq-Decides, HasBegun, IsKept, Writes, written_of, HasRows, CrashLeaves, ◌⊎◌, IsHonest, IsLong, IsOpen, StaysQuiet}
+use Rattle.argon2_rows.proofs.Imports.{WritesAll, IsPermutation, entry_of, bytes_eq-Decides, HasBegun, IsKept, Writes, written_of, HasRows, CrashLeaves, ◌⊎◌, IsHonest, IsLong, IsOpen, StaysQuiet}
 use Rattle.argon2_rows.proofs.Imports.{StoredText, AddError, Store, Taken}
 use Rattle.std.proofs.lemmas.Result.{on_ok_weaker}
 use Rattle.std.proofs.lemmas.List.Sorted.{Contains-permutation, IsPermutation-map, IsPermutation-sym}
 use Rattle.sqlite_trees.proofs.ListLemmas.{along_permutation}
 use Rattle.argon2_rows.proofs.RowLemmas.{changed_apart, get-at, get-changed}
-use Rattle.argon2_rows.proofs.TableLemmas.{Settled, cause_map, changes_of, leaves_quiet, quiet_itself, quiet_then, taken_back}
+use Rattle.argon2_rows.proofs.TableLemmas.{Settled, cause_map, changes_of, leaves_quiet, quiet_then, taken_back}
 
 pub add_last : (es : List (List ℕ × List ℕ)) (before mid after : Texts) (e : List ℕ × List ℕ) → AddsAll before es mid
     → get mid e.0 ≡ None → after ≡ changed mid e.0 (Some e.1) → AddsAll before (es ++ e ∷ []) after

@@ -1,6 +1,6 @@
 -- The words that the proofs of this crate use.
 pub use Rattle.std.proofs.Common.{Bool, Err, IsPermutation, IsSome, IsTrue, IsUtf8, List, None, Ok, Option, Ordering, Result, Some, T, [], ap, arith, cond, false}
-pub use Rattle.std.proofs.Common.{get_or, inl, inr, length, lit<, map, not, refl, rules, subst, sym, take, true, unwrap_or, ℕ, ◌++◌, ◌<◌, ◌∙◌, ◌∷◌, ◌≡◌, ◌≢◌, ◌⊎◌, ◌↔◌}
+pub use Rattle.std.proofs.Common.{inl, inr, length, lit<, map, not, refl, rules, sym, take, true, unwrap_or, ℕ, ◌++◌, ◌<◌, ◌∙◌, ◌∷◌, ◌≡◌, ◌≢◌, ◌⊎◌, ◌↔◌}
 pub use Rattle.std.proofs.lemmas.Cmp.{tied_itself, alike_right}
 pub use Rattle.std.proofs.lemmas.List.{get_or-map, length-map, map_more, take-map, take_all, map-id}
 pub use Rattle.std.proofs.lemmas.Slice.Eq.{bytes_eq-Decides}
@@ -10,16 +10,16 @@ pub use Rattle.std.specs.FinMap.{entries, entries-from_sorted, entries-insert, e
 pub use Rattle.std.specs.FinMap.{nat_cmp-IsAntisymmetric, put, remove, same_entries_map, same_map, slice_cmp-IsAntisymmetric}
 pub use Rattle.std.specs.List.{AllByRecursion, flat_map}
 pub use Rattle.std.specs.Ordering.{eq_by_cmp, nat_cmp, ordering_then, is_gt}
-pub use Rattle.std.specs.Prelude.{All, Any, IfErr, IfSome, IsErrAnd, IsSomeAnd, MatchResult, OnOk, ⊤}
+pub use Rattle.std.specs.Prelude.{Any, IfErr, IfSome, IsErrAnd, IsSomeAnd, MatchResult, OnOk, ⊤}
 pub use Rattle.std.specs.Str.{bytes_eq, chars}
 pub use Rattle.sqlite_value.specs.Keys.{entry_cmp, plain, prefix_cmp}
-pub use Rattle.sqlite_value.specs.Order.{Row, column, number, row_cmp}
+pub use Rattle.sqlite_value.specs.Order.{Row, column, row_cmp}
 pub use Rattle.sqlite_trees.specs.Tree.{IsIndex, Trees, from_key, insert_entry, order_of, remove_entry, sought}
-pub use Rattle.sqlite_trees.specs.View.{Advances, IsStorable, KeepsSchema, View, is_int, with_cursor, HasCause, doubt}
+pub use Rattle.sqlite_trees.specs.View.{Advances, IsStorable, KeepsSchema, View, with_cursor, HasCause, doubt}
 pub use Rattle.sqlite_trees.specs.declared.store.Direction.TheVariants.{Forward}
 pub use Rattle.sqlite_store.proofs.RowLemmas.{from_key-none}
 pub use Rattle.argon2_rows.specs.Names.{AddsAll, AddsEach, Texts, changed, entry_of, Bor, StoredText, AddError, Store, Taken}
 pub use Rattle.argon2_rows.specs.Rows.{AreLines, AreTexts, AreLinesOf, AreWritten, IsLineOf, HasNoneAfter, IsAccount, IsAfterAll, IsFoundAs, breaks_line, row_of, rows_of, shown_char, Keeps}
 pub use Rattle.argon2_rows.specs.Rows.{Appends, Text, Written, Breaks, Failed}
-pub use Rattle.argon2_rows.specs.Table.{Changes, EndsRead, Finishes, HasBegun, HasFailed, HasRows, HasSome, IsHonest, IsKept, IsLong, IsOpen, CrashLeaves, Sees, StaysQuiet, AddsNames, Writes}
+pub use Rattle.argon2_rows.specs.Table.{Changes, EndsRead, Finishes, HasBegun, HasRows, HasSome, IsHonest, IsKept, IsLong, IsOpen, CrashLeaves, Sees, StaysQuiet, AddsNames, Writes}
 pub use Rattle.argon2_rows.specs.Table.{WritesAll, done_of, written_of, IsDue, IsTold, StoreError, Io, Index, Ghosts, MoreFaults}

@@ -46,13 +46,6 @@ fn texts_in(row: &Row) -> Option<(&[u8], &[u8])>
     }
 }
 
-// Whether bytes are UTF-8.
-fn is_text(bytes: &[u8]) -> bool
-    ensures { IsTrue result ↔ IsUtf8 bytes.now }
-{
-    str::from_utf8(bytes).is_ok()
-}
-
 // Whether a row is that of a name with a text of one line: behind a line break, it would read as a line of another name.
 fn is_account(row: &Row) -> bool
     ensures { IsTrue result ↔ IsAccount row.now }
@@ -63,7 +56,7 @@ fn is_account(row: &Row) -> bool
     if text.contains(&b'\n') {
         return false;
     }
-    is_text(name) && is_text(text)
+    str::from_utf8(name).is_ok() && str::from_utf8(text).is_ok()
 }
 
 // Whether the tree has a row of the name, which is then in `row`: `None` if no later name has one either.

@@ -11,21 +11,8 @@ none_after_new : (before : Texts) (name text : List ℕ) → HasNoneAfter before
 none_after_new before name text none later less =
     grind (arith, get-at before name later (Some text), bytes_eq-Decides later name, tied_itself nat_list_cmp_total name, none later less)
 
--- the name has no row, as a look-up found, or since it comes after the last one, and that after all others
-looked : (g : _) (c : After-insert g) (mid : Texts) → (IsHonest g.S.Store c.loop-k.store → Sees (g.S.Store.view c.loop-k.store) mid)
-    → (IsTrue c.loop-k.is_last → IsHonest g.S.Store c.loop-k.store → HasNoneAfter mid c.loop-k.last.now)
-    → Writes g.S.Store c.loop-k.store c.if-not-is_lt.store mid mid ⊥ (Ok tt)
-    × (IsHonest g.S.Store c.if-not-is_lt.store → (get mid c.index-new-k.result.0.now ≡ None)
-    × (IsTrue c.if-not-is_lt.is_last → HasNoneAfter mid c.index-new-k.result.0.now))
-looked g c mid sees last = elim c.if-not-is_lt.branch [
-  | then-not-is_lt+in_ok-found+in_default w ↦ let found = w.in_ok-found.ensures.found mid in search arith
-  | else-not-is_lt w ↦ elim c.if-is_last.branch [
-    | then-is_last v ↦ search (arith, nat_list_cmp_total.trans)
-    | else-is_last v ↦ absurd cc
-  ]
-]
-
--- its row is written after those of the names before it
+-- The name has no row, as a look-up found, or since it comes after the last one, and that after all others. Its row is written
+-- after those of the names before it.
 added : (g : _) (c : After-insert g) (before : Texts) → AreTexts before
     → (IsHonest g.S.Store c.args.store.now → Sees (g.S.Store.view c.args.store.now) before)
     → (mid : Texts) × AreTexts mid
@@ -35,14 +22,23 @@ added : (g : _) (c : After-insert g) (before : Texts) → AreTexts before
     × (get mid c.index-new-k.result.0.now ≡ None) × (IsTrue c.if-not-is_lt.is_last → HasNoneAfter mid c.index-new-k.result.0.now))
 added g c before texts sees =
     let (mid, fine, all, wrote) = c.loop-k.invariant.1 before texts sees in
-    let (read, new) = looked g c mid (search arith) (λ is clean. (all clean).1 is) in
+    let shown : IsHonest g.S.Store c.loop-k.store → Sees (g.S.Store.view c.loop-k.store) mid = search arith in
+    let looked : Writes g.S.Store c.loop-k.store c.if-not-is_lt.store mid mid ⊥ (Ok tt)
+    × (IsHonest g.S.Store c.if-not-is_lt.store → (get mid c.index-new-k.result.0.now ≡ None)
+    × (IsTrue c.if-not-is_lt.is_last → HasNoneAfter mid c.index-new-k.result.0.now)) = elim c.if-not-is_lt.branch [
+      | then-not-is_lt+in_ok-found+in_default w ↦ let found = w.in_ok-found.ensures.found mid in search arith
+      | else-not-is_lt w ↦ elim c.if-is_last.branch [
+        | then-is_last v ↦ search (arith, nat_list_cmp_total.trans)
+        | else-is_last v ↦ absurd cc
+      ]
+    ] in
     let within : c.loop-k.k < length c.args.new.now = c.loop-k-test.true in (
       mid,
       fine,
-      writes_then (writes_then {R = ⊥} wrote read (λ never. never))
-          (rw c.as_str.ensures at (c.insert.ensures.writes mid (λ clean. (new clean).0)))
+      writes_then (writes_then {R = ⊥} wrote looked.0 (λ never. never))
+          (rw c.as_str.ensures at (c.insert.ensures.writes mid (λ clean. (looked.1 clean).0)))
           (λ long. (c.loop-k.k, entry_of c.index-new-k.result, search (arith, length-map), grind (arith, get_or-map), long)),
-      λ clean. let (none, last) = new clean in ((all (omega (arith, clean, read.quiet.clean))).0, none, last),
+      λ clean. let (none, last) = looked.1 clean in ((all (omega (arith, clean, looked.0.quiet.clean))).0, none, last),
     )
 
 pub loop-k-init : goal.loop-k-init
@@ -82,9 +78,8 @@ loop-k-preserved g c = (
   search (arith, keeps_index),
   λ before texts sees.
       let (mid, fine, wrote, all) = rw c.in_ok-insert.was at (added g (goal.at.loop-k-preserved g c).After-insert before texts sees) in (
-        changed mid c.index-new-k.result.0.now (Some c.index-new-k.result.1.text.now),
-        texts_changed mid c.index-new-k.result.0.now (Some c.index-new-k.result.1.text.now) fine
-            (rw c.as_bytes-last.ensures.value at c.as_bytes-last.ensures.utf8) (search arith),
+        _,
+        texts_changed mid _ (Some _) fine (rw c.as_bytes-last.ensures.value at c.as_bytes-last.ensures.utf8) (search arith),
         λ clean.
             let within : c.loop-k.k < length c.args.new.now = c.loop-k-test.true in
             let (adds, none, last) = all (omega (arith, clean, c.insert.ensures.quiet.clean)) in (
