@@ -1,10 +1,9 @@
 //! Opening the file at a path, or making it.
 
-ghost use Rattle.std.specs.Prelude.{◌≡◌, ◌+◌, ◌≤◌, ◌↔◌, true, false, IsTrue, IfErr, IfOk};
+ghost use Rattle.std.specs.Prelude.{◌≡◌, ◌↔◌, true, false, IsTrue, IfErr, IfOk};
 ghost use Rattle.sqlite_store.specs.FileStore.{view};
 ghost use Rattle.sqlite_disk.specs.Disk.{CountsFault};
 ghost use Rattle.sqlite_std_file.specs.File.{IsFresh, file_is_usable};
-ghost use Rattle.sqlite_wal.specs.Format.{be32};
 ghost use Rattle.argon2_store.specs.Errors.{IsOfDatabase, IsOfPath};
 ghost use Rattle.argon2_store.specs.Opening.{AreSynced, AreUnharmed, FoundIn, IsDamaged, seen_image, IsSigned, AreClean, OnlyReads};
 ghost use Rattle.argon2_rows.specs.Table.{IsClean, IsUnwritten};
@@ -118,18 +117,6 @@ pub(crate) fn open_files<D: Disk + Drop>(
     }
 }
 
-// Four bytes of a log's header as a number, the highest first.
-#[tactic(auto, unfolding(sqlite_wal::specs::Format::be32))]
-fn number_at(head: &[u8; 32], at: usize) -> u32
-    requires { at + 4 ≤ 32 }
-    ensures { result ≡ be32 head.now at }
-{
-    head[at] as u32 * 0x100_0000
-        + head[at + 1] as u32 * 0x1_0000
-        + head[at + 2] as u32 * 0x100
-        + head[at + 3] as u32
-}
-
 // Whether a log's header passes SQLite's test: it begins with the magic number and ends with its checksum.
 fn is_signed(head: &[u8; 32]) -> bool
     ensures { IsTrue result ↔ IsSigned head.now }
@@ -138,7 +125,9 @@ fn is_signed(head: &[u8; 32]) -> bool
         return false;
     }
     let sum = checksum_of(head[3] == 0x83, (0, 0), &head[..24]);
-    sum == (number_at(head, 24), number_at(head, 28))
+    let first = u32::from_be_bytes([head[24], head[25], head[26], head[27]]);
+    let second = u32::from_be_bytes([head[28], head[29], head[30], head[31]]);
+    sum == (first, second)
 }
 
 // Whether a log that is long enough to have a frame has a damaged header.
