@@ -1,11 +1,10 @@
 -- What a call on an account file does if it is refused, writes nothing, or makes its edits.
-use Rattle.argon2_store.proofs.Imports.{arith, zero, suc, ◌≡◌, ◌⊎◌, ◌<◌, ◌∷◌, [], inl, inr, ℕ, List, Option, Some, None, Result, Ok, Err, Bool, true, false, refl, sym, subst, ◌∙◌, ap}
-use Rattle.argon2_store.proofs.Imports.{IsTrue, get, Any, HasFailed, option_map, string_bytes, ◌↔◌, IfErr, IsErrAnd, IsSomeAnd, OnOk, length, length-map, get_or-map, iff_false}
-use Rattle.argon2_store.proofs.Imports.{true_from_ne_false, StoreError, Ghosts, Texts, IfOk, IfSome, AddsNames, on_ok_weaker, Answers, error_of, IsClosed, IsErrorAt, Makes, Serves, AddsAll}
+use Rattle.argon2_store.proofs.Imports.{arith, zero, suc, ◌≡◌, ◌⊎◌, ◌<◌, ◌∷◌, [], inl, inr, ℕ, List, Option, Some, None, Result, Ok, Err, Bool, true, false, refl, sym, ◌∙◌, ap}
+use Rattle.argon2_store.proofs.Imports.{IsTrue, get, Any, HasFailed, option_map, string_bytes, ◌↔◌, IfErr, IsErrAnd, IsSomeAnd, OnOk, length, length-map, get_or-map}
+use Rattle.argon2_store.proofs.Imports.{quiet_itself, StoreError, Ghosts, Texts, IfOk, IfSome, AddsNames, on_ok_weaker, Answers, error_of, IsClosed, IsErrorAt, Makes, Serves, AddsAll}
 use Rattle.argon2_store.proofs.Imports.{IsFirstTaken, Stays, database_of, read_of, call_error, Changes, IsHonest, IsLong, IsOpen, CrashLeaves, StaysQuiet, changed, AccountFile, FileError}
-use Rattle.argon2_store.proofs.Imports.{Closed, NameTaken, OutOfMemory, String, IsSome, Edit, adding, IsTooLong, additions, gives, is_refusal, names_after, name_of, refusal, HasCause}
+use Rattle.argon2_store.proofs.Imports.{Closed, NameTaken, OutOfMemory, String, Edit, adding, IsTooLong, additions, gives, is_refusal, names_after, name_of, refusal, HasCause}
 use Rattle.argon2_store.proofs.Imports.{HasFailedBy, HasNames, NamesStay, lines_by, read_by, IsTold, both_ways, changed_back, Keeps, Settled, err_is, shape_of, leaves_quiet, on_all}
-use Rattle.argon2_store.proofs.Imports.{quiet_itself}
 use Rattle.argon2_rows.specs.declared.view.Written.{Written}
 use Rattle.sqlite_trees.specs.View.{HasCause as Cause, View}
 
@@ -133,7 +132,7 @@ module _ {S : Type 0} {g : Ghosts S} {old mid : AccountFile S g} {before : Texts
   writes_all {edits = edits} {long = long} {new = new} too then (Err f) all change r e =
       let of_file : is_refusal (call_error f) ≡ false = grind arith in (
         before,
-        rw e (ends change (Err (call_error f)) before change.kept (λ clean. ((λ is. absurd cc), refl)) (λ is. absurd cc)
+        rw e (ends change (Err (call_error f)) before change.kept (grind arith) (grind arith)
             (λ clean db found. let (names, held, is) = change.crash clean db found in
             let ended = then clean in (names, held, grind arith)) (λ clean. let was = change.honest clean in
             due {X = Unit {0}} (IsClosed old) (IsTold g (database_of new)) (g.view (database_of mid)) (Err f)
@@ -166,18 +165,17 @@ module _ {S : Type 0} {g : Ghosts S} {edit : Edit} {old mid : AccountFile S g} (
 
   -- one that is refused
   pub refuses : {e : FileError} → refusal edit (option_map string_bytes o) ≡ Some e → Serves (edit ∷ []) (Err e) old mid
-  refuses {e} why = unwritten (Err e) (λ before had. ((λ refused. rw (had, why) refl), refl)) (λ closed long fault. grind arith)
+  refuses {e} why = unwritten (Err e) (grind arith) (grind arith)
 
   -- one that there is no memory for
   pub fails_after : {r : Result (Unit {0}) FileError} → IsErrAnd r (λ e. e ≡ OutOfMemory) → Serves (edit ∷ []) r old mid
-  fails_after failed = rw (err_is _ _ failed)
-      (unwritten (Err OutOfMemory) (λ before had. ((λ is. absurd cc), refl)) (λ closed long fault. tt))
+  fails_after failed = rw (err_is _ _ failed) (unwritten (Err OutOfMemory) (grind arith) (grind arith))
 
   -- one that leaves the text
   pub accepts : refusal edit (option_map string_bytes o) ≡ None
       → gives edit (option_map string_bytes o) ≡ option_map string_bytes o → Serves (edit ∷ []) (Ok tt) old mid
   accepts none same = unwritten (Ok tt) (λ before had. rw (had, none, same)
-      (ap Ok (changed_back before before (name_of edit) _ (λ q far. refl) had))) (λ closed long fault. tt)
+      (ap Ok (changed_back before before (name_of edit) _ (λ q far. refl) had))) (grind arith)
 
   -- one that is written
   pub writes : {new : AccountFile S g} (p : Option (List ℕ)) → refusal edit (option_map string_bytes o) ≡ None
@@ -190,8 +188,7 @@ module _ {S : Type 0} {g : Ghosts S} {edit : Edit} {old mid : AccountFile S g} (
       let wrote = change before read.has in
       let had : IsTrusted new → get before (name_of edit) ≡ option_map string_bytes o = λ clean.
       shows before read.has (wrote.honest clean) ∙ ap (option_map string_bytes) is in
-      let all : IsTrusted new → names_after (edit ∷ []) before ≡ Ok (changed before (name_of edit) p) = λ clean.
-      rw (had clean, none, given) refl in
+      let all : IsTrusted new → names_after (edit ∷ []) before ≡ Ok (changed before (name_of edit) p) = grind arith in
       let within : 0 < length (edit ∷ []) = omega arith in
       writes_all read (λ clean long. (0, edit, within, refl, rw (had clean, given) long)) (λ clean. inr (all clean)) done
       (on_all done all) wrote r e

@@ -2,7 +2,7 @@
 pub use Rattle.std.proofs.Common.{Bool, Err, IsTrue, IsUtf8, List, None, Ok, Option, Result, Some, [], ap, append_assoc, ap₂, arith, false, inl, inr, length, map, refl, rules, slice_index}
 pub use Rattle.std.proofs.Common.{string_bytes, subst, suc, zero, subst₂, sym, true, unwrap_or, ℕ, ◌++◌, ◌<◌, ◌↔◌, ◌∙◌, ◌∷◌, ◌≡◌, ◌≤◌, ◌⊎◌}
 pub use Rattle.std.proofs.Math.Logic.{∥∥₁_elim, ∥∥₁_map}
-pub use Rattle.std.proofs.lemmas.Bool.{cases_Bool, cases_eq, iff_false, true_from_ne_false, both_ways}
+pub use Rattle.std.proofs.lemmas.Bool.{cases_Bool, cases_eq, both_ways}
 pub use Rattle.std.proofs.lemmas.List.{get_or-map, length-map, nil_from_length}
 pub use Rattle.std.proofs.lemmas.Result.{on_ok_weaker}
 pub use Rattle.std.proofs.lemmas.Slice.Eq.{bytes_eq-Decides}
@@ -10,7 +10,7 @@ pub use Rattle.std.proofs.option.Match.{None-if_not_some}
 pub use Rattle.std.specs.FinMap.{empty, get, get-empty}
 pub use Rattle.std.specs.List.{flat_map, range_with_len}
 pub use Rattle.std.specs.Option.{option_copied, option_map}
-pub use Rattle.std.specs.Prelude.{Any, IfErr, IfOk, IfSome, IsSome, IsErrAnd, IsSomeAnd, OnOk, String}
+pub use Rattle.std.specs.Prelude.{Any, IfErr, IfOk, IfSome, IsErrAnd, IsSomeAnd, OnOk, String}
 pub use Rattle.sqlite_pool.proofs.StateLemmas.{clean_if_left, clean_is, size_is_allowed}
 pub use Rattle.sqlite_pool.specs.Stored.{Recovers, RecoversAs, reserved, sealed, stored_size}
 pub use Rattle.sqlite_pool.specs.StoredLaws.{RecoversAs-from, length-sealed, readable, recovers_once, trimmed_whole}
@@ -25,7 +25,7 @@ pub use Rattle.sqlite_wal.proofs.CleanLemmas.{halves}
 pub use Rattle.sqlite_wal.proofs.LogLemmas.{SeenMayStay}
 pub use Rattle.sqlite_wal.proofs.PartLemmas.{held_is_part, part_within, slice_index-part}
 pub use Rattle.sqlite_wal.specs.Format.{checksum, is_big, part}
-pub use Rattle.sqlite_wal.specs.Recovery.{AreWhole, Image, IsIgnored, Replays, header, pages_after}
+pub use Rattle.sqlite_wal.specs.Recovery.{AreWhole, Image, IsIgnored, Replays, header}
 pub use Rattle.argon2_store.specs.Opening.{AreUnharmed, FoundIn, HoldsNames, IsAfterOpens, IsTableOf, IsUnstarted, LeavesNames, MayHave, StandsFor, IsDamaged, IsOfDamage, IsOfPair, ListsOne}
 pub use Rattle.argon2_store.specs.Opening.{IsBlankFile, Row, Table, outcomes, seen_image, AreClean, OnlyReads, PageMap, Wanted, IsSoundFile}
 pub use Rattle.argon2_rows.specs.Table.{Changes, HasFailed, HasRows, HoldsTable, IsUnwritten, IsHonest, IsLong, IsOpen, CrashLeaves, StaysQuiet, account, AddsNames, Finishes, Writes, catalog, IsTold}
