@@ -132,7 +132,7 @@ pub fn look_up<S: Store>(
     }
 }
 
-/// Reads all rows once, and returns whether each is that of a name with a text of one line, and no name has two.
+/// Reads all rows, and returns whether each is that of a name with a text of one line, and no name has two.
 /// `row` and `last` are memory for rows.
 ///
 /// # Errors
@@ -237,7 +237,7 @@ fn digit(n: u8) -> u8
 }
 
 /// Writes a line for each row, up to the first whose name [breaks it](View::breaks_line), and flushes `output` after
-/// the last. `row` is memory for a row.
+/// the last. No clause says that it is flushed. `row` is memory for a row.
 ///
 /// # Errors
 /// Those of the store.

@@ -95,7 +95,8 @@ pub fn replace<S: Store>(
     insert(store, row, name, new)
 }
 
-/// Writes the rows of new names with their texts, up to the first that has a row. `row` and `key` are memory for rows.
+/// Writes the rows of new names with their texts, up to the first that has a row. If one has a row, the caller removes
+/// what was written: no clause says what that is. `row` and `key` are memory for rows.
 ///
 /// # Errors
 /// - [`AddError::Taken`]: a name has a row.
