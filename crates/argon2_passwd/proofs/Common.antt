@@ -1,24 +1,22 @@
 -- What the proofs of this crate share: the words that they use, and lemmas on passwords, lines, failures and opened files.
-pub use Rattle.std.proofs.Common.{[], add-one, ap, append-nil, append_assoc, arith, Bool, Bor, drop, drop-cons, Err, false, get_or, inl, inr, length, List, lit<, map, min, None, Ok, Option, refl}
+pub use Rattle.std.proofs.Common.{[], ap, append-nil, append_assoc, arith, Bool, Bor, drop, Err, false, inl, inr, length, List, lit<, map, min, None, Ok, Option, refl}
 pub use Rattle.std.proofs.Common.{Result, rules, Some, subst, suc, sym, take, true, ℕ, ⊎_elim, ◌++◌, ◌+◌, ◌<◌, ◌==◌, ◌||◌, ◌∙◌, ◌∷◌, ◌≡◌}
 pub use Rattle.std.proofs.lemmas.Option.{IfSome_then}
 pub use Rattle.std.proofs.lemmas.Grind.{common_steps}
-pub use Rattle.std.proofs.lemmas.Result.{err_from_is_err_and}
 pub use Rattle.std.specs.Io.BufRead.{drop_through, DropsThrough, strip_last}
 pub use Rattle.std.specs.Io.KnownBytes.{WriteAppends}
-pub use Rattle.std.specs.List.{after_first, AllZip, before_first, IsFirstMatchOrLen, list_any, slice_get, slice_split}
+pub use Rattle.std.specs.List.{after_first, AllZip, before_first, IsFirstMatchOrLen, slice_get, slice_split}
 pub use Rattle.std.specs.Option.{is_some, option_copied, unwrap_or}
 pub use Rattle.std.specs.Prelude.{All, IfOk, IfSome, String, string_bytes}
-pub use Rattle.std.specs.Str.{bytes_eq, is_utf8}
+pub use Rattle.std.specs.Str.{is_utf8}
 pub use Rattle.std.specs.Str.Lines.{lines, lines_of_parts, strip_carriage_return}
 pub use Rattle.argon2_rows.proofs.TableLemmas.{err_is, quiet_then}
 pub use Rattle.argon2_rows.specs.Locks.{behind_lock, without_lock}
 pub use Rattle.argon2_store.specs.AccountFile.{HasCause, HasFailedBy, IsClosed, Reads}
-pub use Rattle.argon2_store.specs.declared.error.FileError.TheVariants.{Damaged}
 pub use Rattle.argon2_passwd.specs.Answers.{AccountFile, AddsEntries, additions, answer_without_text, Appends, AreSaid, behind, Bor, database_of, entries_in, entry_of, entry_or_flaw}
 pub use Rattle.argon2_passwd.specs.Answers.{FileError, Flaw, flaws_from, get, Ghosts, has_name, HasNames, is_locked, has_text, IsHonest, IsLooked, IsOfFirst, IsOpened, IsOpenFor, IsUnfound}
 pub use Rattle.argon2_passwd.specs.Answers.{Keeps, Line, line_has_name, Looks, NameTaken, new_line, new_lines, next_salt, file_failure, OfPassword, option_map, password_of, phc_of, scheme_of}
-pub use Rattle.argon2_passwd.specs.Answers.{Serves, Stays, StoredText, Texts}
+pub use Rattle.argon2_passwd.specs.Answers.{Serves, Stays, Texts}
 pub use Rattle.argon2_passwd.specs.Lines.{IsEntryOrFlaw, IsTaken, parts_now, unmarked}
 pub use Rattle.argon2_passwd.specs.Passwords.{line_of}
 use Rattle.argon2_passwd.specs.Answers.{BoundError, Failure, is_refusal, IsDenied, Phc, status_of}

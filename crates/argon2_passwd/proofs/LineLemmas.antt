@@ -1,6 +1,6 @@
 -- The first line of a text, and what lines come to one by one.
-use Rattle.argon2_passwd.proofs.Common.{[], All, AllZip, ap, append_assoc, arith, Bor, common_steps, drop, drop-cons, entry_or_flaw, false, Flaw, get_or, IsFirstMatchOrLen, length, Line, line_of, lines, lines_of_parts}
-use Rattle.argon2_passwd.proofs.Common.{List, map, min, refl, Result, slice_split, StoredText, strip_carriage_return, strip_last, suc, sym, take, ℕ, ⊎_elim, ◌++◌, ◌+◌, ◌<◌, ◌==◌, ◌∙◌, ◌∷◌, ◌≡◌}
+use Rattle.argon2_passwd.proofs.Common.{[], All, AllZip, ap, append_assoc, arith, common_steps, false, IsFirstMatchOrLen, length, line_of, lines, lines_of_parts}
+use Rattle.argon2_passwd.proofs.Common.{List, map, min, refl, slice_split, strip_carriage_return, strip_last, sym, take, ℕ, ⊎_elim, ◌++◌, ◌+◌, ◌<◌, ◌==◌, ◌∙◌, ◌∷◌, ◌≡◌}
 use Rattle.std.proofs.lemmas.Bool.{cases_lt}
 use Rattle.std.proofs.lemmas.List.{map-append}
 use Rattle.std.proofs.lemmas.List.Splits.{length-slice_split, slice_split_at, slice_split_none}
@@ -42,28 +42,10 @@ lines_first rest line after i some whole long first = ⊎_elim
     rw (all, end) (lines-last line (grind (arith, common_steps)) (λ k d below. grind (arith, common_steps, first.0 k d))))
     (cases_lt i (length rest))
 
--- a line, as the code has it
-abbrev pub Own : Type 0
-Own = Result (Bor (List ℕ) × StoredText) Flaw
-
--- the next of the lines
-next_line : (ls : List Own) (k : ℕ) (x : Own) → k < length ls → x ≡ get_or ls k x → drop k ls ≡ x ∷ drop (suc k) ls
-next_line ls k x within is = drop-cons ls k x within ∙ ap (λ y. y ∷ drop (suc k) ls) (sym is)
-
--- a line more, and none
+-- a line more
 pub map-push : {A B : Type 0} (f : A → B) (found : List A) (x : A) (rest : List B)
     → map f found ++ f x ∷ rest ≡ map f (found ++ x ∷ []) ++ rest
 map-push f found x rest = simp (map-append, append_assoc)
-
--- a line more is found, and the rest is made behind it
-pub one_more : (F G : List Line → List Line) (f : Line → Line) (ls found : List Own) (k : ℕ) (x y : Own) (all : List Line)
-    → ((rest : List Line) → F (entry_or_flaw x ∷ rest) ≡ f (entry_or_flaw x) ∷ G rest) → k < length ls → x ≡ get_or ls k x
-    → entry_or_flaw y ≡ f (entry_or_flaw x) → map entry_or_flaw found ++ F (map entry_or_flaw (drop k ls)) ≡ all
-    → map entry_or_flaw (found ++ y ∷ []) ++ G (map entry_or_flaw (drop (suc k) ls)) ≡ all
-one_more F G f ls found k x y all makes within is said sofar =
-    let rest = map entry_or_flaw (drop (suc k) ls) in
-    let more = ap (λ l. l ∷ G rest) said ∙ sym (makes rest) in
-    sym (map-push entry_or_flaw found y (G rest)) ∙ ap (λ l. map entry_or_flaw found ++ l) more ∙ (rw (next_line ls k x within is) at sofar)
 
 pub none_left : {X : Type 0} (P : List ℕ → X → Type 0) (bytes : List ℕ) → length bytes ≡ 0 → AllZip P (lines bytes) []
 none_left P [] none = tt

@@ -1,5 +1,5 @@
 -- What the program answers. The words that the contracts share with it are passed on.
-use Rattle.std.specs.Prelude.{◌≡◌, ◌≢◌, ◌⊎◌, ℕ, ◌||◌, false, Bool, ◌+◌, IsTrue, List, [], ◌∷◌, ◌++◌, Option, Some, None, IfSome, Result, Ok, Err, IfOk, IsErrAnd, is_ok, if◌then◌else◌, IsSomeAnd, map, take, unwrap_or}
+use Rattle.std.specs.Prelude.{◌≡◌, ◌≢◌, ◌⊎◌, ℕ, ◌||◌, false, Bool, ◌+◌, IsTrue, List, [], ◌∷◌, ◌++◌, Option, Some, None, IfSome, Result, Ok, Err, IfOk, IsErrAnd, is_ok, if◌then◌else◌, IsSomeAnd, take, unwrap_or}
 use Rattle.std.specs.Io.BufRead.{drop_through}
 pub use Rattle.std.specs.Option.{option_map}
 use Rattle.std.specs.Result.{result_map_both}
@@ -40,7 +40,7 @@ use Rattle.argon2_passwd.specs.declared.run.edits.Step.{Step}
 use Rattle.argon2_passwd.specs.declared.run.edits.Step.TheVariants as step
 pub use Rattle.argon2_passwd.specs.Failures.{BoundError, denial_line, Failure, FileError, IsDenialOf, IsOfWrite, LineError, Params, is_refusal, bound_failure, file_failure, lines_failure, status_by, status_of}
 use Rattle.argon2_passwd.specs.Failures.{File, Line as AtLine, Name, Passed, Refused, Scheme}
-pub use Rattle.argon2_passwd.specs.Lines.{AreSaid, Bor, Flaw, IsOfFirst, Line, Phc, PhcText, StoredText, entries_in, entry_or_flaw, flaws_from, has_name, has_text, line_has_name, new_line, new_lines, scheme_of}
+pub use Rattle.argon2_passwd.specs.Lines.{AreSaid, Bor, Flaw, IsOfFirst, Line, Phc, PhcText, entries_in, entry_or_flaw, flaws_from, has_name, has_text, line_has_name, new_line, new_lines, scheme_of}
 use Rattle.argon2_passwd.specs.Lines.{Taken, has_control}
 use Rattle.argon2_passwd.specs.declared.outside.News.{News}
 pub use Rattle.argon2_passwd.specs.News.{news_of, news_text}

@@ -1,4 +1,4 @@
-use Rattle.argon2_passwd.proofs.Common.{err_is, found_as, inl, inr, keeps_same, phc_of, refl, ◌∙◌}
+use Rattle.argon2_passwd.proofs.Common.{err_is, found_as, inl, inr, keeps_same, phc_of, ◌∙◌}
 use Rattle.argon2_passwd.proofs.run.check.Goals as goal
 
 pub returns-in_err-accepted : goal.returns-in_err-accepted

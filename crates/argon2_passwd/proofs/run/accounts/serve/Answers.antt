@@ -1,4 +1,3 @@
-use Rattle.argon2_passwd.proofs.Common.{err_is, inr, keeps_same}
 use Rattle.argon2_passwd.proofs.run.accounts.serve.Goals as goal
 
 pub returns-in-Edit : goal.returns-in-Edit

@@ -1,4 +1,4 @@
-use Rattle.argon2_passwd.proofs.Common.{[], arith, common_steps, err_is, inl, inr, None, refl, ◌≡◌}
+use Rattle.argon2_passwd.proofs.Common.{[], arith, common_steps, err_is, inl, inr, ◌≡◌}
 use Rattle.argon2_passwd.proofs.Looks.{added}
 use Rattle.argon2_passwd.proofs.run.others.add_others.Goals as goal
 

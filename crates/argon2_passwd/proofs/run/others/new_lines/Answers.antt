@@ -1,5 +1,4 @@
-use Rattle.argon2_passwd.proofs.Common.{arith, Bool, common_steps, entry_or_flaw, err_is, inl, has_text, Line, line_has_name, List, new_line, new_lines, None, refl, ℕ, ◌||◌, ◌∙◌, ◌≡◌}
-use Rattle.argon2_passwd.proofs.LineLemmas.{one_more}
+use Rattle.argon2_passwd.proofs.Common.{arith, Bool, common_steps, entry_or_flaw, err_is, inl, has_text, Line, line_has_name, List, new_line, None, refl, ℕ, ◌||◌, ◌∙◌, ◌≡◌}
 use Rattle.argon2_passwd.proofs.Looks.{looks_then, names_stay, was_honest}
 use Rattle.argon2_passwd.proofs.run.others.new_lines.Goals as goal
 
