@@ -5,9 +5,9 @@ use Rattle.argon2_policy.specs.Policy.{ChangeRefusal, DrawsIfAdmitted}
 use Rattle.argon2_rows.proofs.RowLemmas.{get-changed}
 use Rattle.argon2_store.specs.AccountFile.{Answers}
 use Rattle.argon2_store.specs.Edits.{gives, name_of, names_after}
-pub use Rattle.argon2_accounts.specs.Accounts.{Accepted, AccountFile, Admits, AdmitsName, BoundError, ChangesName, Denial, Edit, FileError, Ghosts, GivesPassword, HasNames, IsFresh, IsHonest, Kept}
-pub use Rattle.argon2_accounts.specs.Accounts.{LogsIn, LogsNameIn, PasswordHash, Policy, Rehashed, RelatesNames, Serves, Stream, TellsOfRenewal, TextRefusal, Texts, adding, changed, database_of}
-pub use Rattle.argon2_accounts.specs.Accounts.{fill_bytes, get, is_account_refusal, max_len, of_file, of_policy, phc_of, policy_value, replacing, result_map_both, setting, text_of, AccountError, MakingRefusal, NamesStay, TellsOf}
+pub use Rattle.argon2_accounts.specs.Accounts.{Accepted, AccountFile, Admits, AdmitsName, BoundError, ChangesName, Edit, FileError, Ghosts, GivesPassword, HasNames, IsFresh, IsHonest}
+pub use Rattle.argon2_accounts.specs.Accounts.{LogsIn, LogsNameIn, PasswordHash, Policy, Rehashed, RelatesNames, Serves, Stream, TellsOfRenewal, Texts, adding, changed, database_of}
+pub use Rattle.argon2_accounts.specs.Accounts.{fill_bytes, get, is_account_refusal, of_file, of_policy, phc_of, policy_value, replacing, setting, text_of, AccountError, NamesStay, TellsOf}
 pub use Rattle.argon2_rows.proofs.TableLemmas.{err_is}
 
 -- an edit that is accepted leaves its name what it gives
