@@ -9,7 +9,7 @@ use crate::version::Version;
 use argon2_base::block::{Block, Words, Work};
 use argon2_base::error::{Error, Result};
 use std::alloc::Allocator;
-use std::{fmt, mem};
+use std::fmt;
 
 mod checks;
 mod fill;
@@ -297,9 +297,9 @@ impl<'key> Argon2<'key> {
         ensures same { OnErr result ((out.new ≡ out.old) × (memory.new ≡ memory.old)
             × (positions.new ≡ positions.old)) }
     {
-        let mut watch = Watch::new(positions);
+        let mut watch = Watch::new(positions, Work::new());
         self.hash(self.params.data(), pwd, salt, out, memory, &mut watch)?;
-        Ok(mem::replace(&mut watch.work, Work::new()))
+        Ok(watch.into_work())
     }
 
     /// Fills the first [`block_count`](Params::block_count) blocks of `memory` as a hash of a

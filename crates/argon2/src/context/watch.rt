@@ -18,19 +18,25 @@ impl<'a> Watch<'a> {
     pub(super) fn nobody() -> Watch<'a>
         ensures { result.work ≡ 0 }
     {
-        Watch::new(&mut [])
+        Watch::new(&mut [], Work::new())
     }
 
-    /// `positions` has an entry for each block of each pass, which gets the place of the block's reference.
-    pub(super) fn new(positions: &'a mut [u32]) -> Watch<'a>
+    /// `positions` has an entry for each block of each pass, which gets the place of the block's reference. `work` counts on.
+    pub(super) fn new(positions: &'a mut [u32], work: Work) -> Watch<'a>
         ensures list { result.positions.ghost_name ≡ positions.entry.ghost_name }
         ensures before { result.positions.now ≡ positions.old }
-        ensures work { result.work ≡ 0 }
+        ensures work { result.work ≡ work }
     {
-        Watch {
-            positions,
-            work: Work::new(),
-        }
+        Watch { positions, work }
+    }
+
+    /// The count of mixings.
+    pub(super) fn into_work(self) -> Work
+        ensures work { result ≡ self.entry.work }
+        ensures places { self.exit.0.now ≡ self.entry.positions.now }
+    {
+        let Watch { work, .. } = self;
+        work
     }
 
     /// Keeps the place of a reference, if there is an entry for it.
