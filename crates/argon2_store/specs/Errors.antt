@@ -83,15 +83,6 @@ store_error below.Io = no.Io
 store_error below.Full = no.Full
 store_error _ = NotAccounts
 
--- the errors of opening the files at a path
-abbrev pub IsOfPath : OpenError → Type 0
-IsOfPath (Path why) = ⊤
-IsOfPath no.OutOfMemory = ⊤
-IsOfPath no.Full = ⊤
-IsOfPath Busy = ⊤
-IsOfPath HotJournal = ⊤
-IsOfPath _ = ⊥
-
 -- the errors of the database in them
 abbrev pub IsOfDatabase : OpenError → Type 0
 IsOfDatabase no.OutOfMemory = ⊤

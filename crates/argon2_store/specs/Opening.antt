@@ -92,10 +92,6 @@ pub record IsOfPair {D : Type 0} (g : Ghosts D) (old new : D × D) (e : OpenErro
   pub damage : AreClean g new.0 new.1 → IsDamaged (g.seen old.0) → IsOfDamage g old.0 new.0 e
   pub unharmed : AreUnharmed g old new
 
--- an open of files that were synced and held this image has failed so
-abbrev pub IsOfFiles : {D : Type 0} → Ghosts D → Image → OpenError → Type 0
-IsOfFiles {D} g image e = (old new : D × D) × AreSynced g old × (seen_image g old.0 old.1 ≡ image) × IsOfPair g old new e
-
 -- Opens that failed, the newest first, with the files that each found: the first found `before`, and each left files that stand
 -- for those that it found. Files that have just been opened are synced, so a crash leaves just these. One during an open counts
 -- as an open that fails there.

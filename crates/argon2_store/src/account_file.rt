@@ -1,10 +1,10 @@
 //! Accounts in a file.
 #![tactic(auto, using(crate::proofs::FileLemmas::answers))]
 
-ghost use Rattle.std.specs.Prelude.{◌≡◌, ◌⊎◌, ◌↔◌, [], ◌∷◌, false, Err, IsTrue, IfErr, IfOk, OnOk, map, string_bytes};
+ghost use Rattle.std.specs.Prelude.{◌≡◌, ◌↔◌, [], ◌∷◌, false, Err, IsTrue, IfErr, IfOk, OnOk, map, string_bytes};
 ghost use Rattle.argon2_rows.specs.Names.{Texts as Named, entry_of, get};
 ghost use Rattle.argon2_rows.specs.Table.{HasSome, IsHonest, IsOpen};
-ghost use Rattle.argon2_store.specs.Errors.{IsOfPath, is_refusal, read_by};
+ghost use Rattle.argon2_store.specs.Errors.{is_refusal, read_by};
 
 use crate::error::{FileError, LineError, OpenError, call_error, line_result, read};
 use crate::opening::{is_damaged, open_files, open_path};
@@ -249,7 +249,6 @@ impl<S: Store> AccountFile<S> {
 impl<T: Start> AccountsAt<T> {
     ghost use Rattle.sqlite_wal.specs.Files.{image_at};
     ghost use Rattle.argon2_store.specs.AccountFile.{IsFileFrom};
-    ghost use Rattle.argon2_store.specs.Opening.{IsOfFiles};
 
     /// Opens the accounts in the SQLite file at a path, or makes the file. Its log lies beside it, under
     /// the same name with `-wal` at its end. `start` stands for what the two files hold: one value of each
@@ -260,8 +259,8 @@ impl<T: Start> AccountsAt<T> {
     /// and one that was empty, is a database with no table before its log is begun, so that `sqlite3` opens it after a
     /// kill. No clause says so.
     ///
-    /// An open that fails leaves the accounts in the file as they were: see [`failed_open`](crate::failed_open). Its error is
-    /// one of the path's, or that of [`open_from`](AccountFile::open_from) on the two files.
+    /// An open that fails leaves the accounts in the file as they were: see [`failed_open`](crate::failed_open). No clause
+    /// says which error it answers; that of [`open_from`](AccountFile::open_from) does, on two files.
     ///
     /// # Errors
     /// - [`OpenError::Path`]: the system refuses to open or to make the file.
@@ -271,9 +270,7 @@ impl<T: Start> AccountsAt<T> {
     /// - [`OpenError::NotAccounts`], [`OpenError::Row`]: it holds something else than accounts.
     /// - [`OpenError::Io`], [`OpenError::Full`], [`OpenError::OutOfMemory`].
     pub fn open(rt: &HostRuntime, path: &str, start: T) -> Result<AccountsAt<T>, OpenError>
-        ensures ok { IfOk result (IsFileFrom (image_at T.Start)) }
-        ensures err { IfErr result (λ e. IsOfPath e ⊎
-            IsOfFiles ⟦<FileFrom<T> as Disk>⟧ (image_at T.Start) e) }
+        ensures { IfOk result (IsFileFrom (image_at T.Start)) }
     {
         let (files, seed) = open_path(rt, path, start)?;
         match AccountFile::open_from(rt.alloc(), files, seed) {

@@ -1,7 +1,7 @@
 //! Why calls on an account file are refused.
 
 ghost use Rattle.std.specs.Prelude.{◌≡◌, Some};
-ghost use Rattle.argon2_store.specs.Errors.{IsOfDatabase, IsOfPath, OutOfMemory, call_error, file_error_text, files_error, is_refusal, lines_by, log_error, file_error, open_error_text, path_error, read_of, store_error};
+ghost use Rattle.argon2_store.specs.Errors.{IsOfDatabase, OutOfMemory, call_error, file_error_text, files_error, is_refusal, lines_by, log_error, file_error, open_error_text, path_error, read_of, store_error};
 ghost use Rattle.argon2_store.specs.declared.error.OpenError.TheVariants as no;
 
 use argon2_rows::Written;
@@ -211,7 +211,7 @@ impl From<StoreError> for OpenError {
 }
 
 impl From<PathError> for OpenError {
-    ghost from_gives = { λ e error. (error ≡ path_error e) × IsOfPath error };
+    ghost from_gives = { λ e error. error ≡ path_error e };
 
     fn from(error: PathError) -> OpenError {
         match error {

@@ -4,7 +4,7 @@ ghost use Rattle.std.specs.Prelude.{◌≡◌, ◌↔◌, true, false, IsTrue, I
 ghost use Rattle.sqlite_store.specs.FileStore.{view};
 ghost use Rattle.sqlite_disk.specs.Disk.{CountsFault};
 ghost use Rattle.sqlite_std_file.specs.File.{IsFresh, file_is_usable};
-ghost use Rattle.argon2_store.specs.Errors.{IsOfDatabase, IsOfPath};
+ghost use Rattle.argon2_store.specs.Errors.{IsOfDatabase};
 ghost use Rattle.argon2_store.specs.Opening.{AreSynced, AreUnharmed, FoundIn, IsDamaged, seen_image, IsSigned, AreClean, OnlyReads};
 ghost use Rattle.argon2_rows.specs.Table.{IsClean, IsUnwritten};
 
@@ -148,7 +148,6 @@ pub(crate) fn is_damaged<D: Disk>(log: &mut D) -> io::Result<bool>
 
 // The error of the system on a new file.
 fn refused(error: io::Error) -> OpenError
-    ensures { IsOfPath result }
 {
     match error.kind() {
         ErrorKind::OutOfMemory => OpenError::OutOfMemory,
@@ -201,7 +200,6 @@ fn begin(file: &mut File) -> io::Result<()> {
 // Makes a database for its owner alone, or in a file that is empty, unless something else has its name. The kit's open would
 // make a file that all may read.
 fn make(rt: &HostRuntime, path: &str) -> Result<(), OpenError>
-    ensures { IfErr result IsOfPath }
 {
     let (mut file, is_new) = match empty_file(rt, path) {
         Ok(Some(found)) => found,
@@ -249,7 +247,6 @@ pub(crate) fn open_path<T: Start>(
     ensures db { IfOk result (λ it. IsTrue (file_is_usable T.Start it.0.db)) }
     ensures fresh { IfOk result (λ it. IsFresh true it.0.log × IsFresh false it.0.db) }
     ensures synced { IfOk result (λ it. AreSynced ⟦<FileFrom<T> as Disk>⟧ (it.0.log, it.0.db)) }
-    ensures error { IfErr result IsOfPath }
 {
     make(rt, path)?;
     let held = held(rt, path)?;
