@@ -1,17 +1,21 @@
 -- Fronts of a text that known bytes grow by.
-use Rattle.std.proofs.Common.{◌≡◌, ◌∙◌, ◌++◌, ◌+◌, ◌<◌, ℕ, List, Option, sym, ap, take, drop, length, slice_index_or, take-append-drop, append_assoc, subst}
+use Rattle.std.proofs.Common.{◌≡◌, ◌∙◌, ◌++◌, ◌+◌, ◌<◌, ℕ, List, Option, sym, ap, take, drop, length, slice_index_or, take-append-drop, append_assoc, append-nil, subst, []}
 use Rattle.std.proofs.KnownBytes.{Appends-kept, Appends-trans}
 use Rattle.std.proofs.Math.Seq.{take-add}
 use Rattle.std.proofs.lemmas.Grind.{flat_map-append}
 use Rattle.std.proofs.lemmas.List.{drop_more}
 use Rattle.std.proofs.lemmas.List.Concat.{flat_map-cons}
-use Rattle.std.specs.Borrow.{Bor}
 use Rattle.std.specs.Io.KnownBytes.{Appends, Keeps}
-use Rattle.argon2_programs.specs.Lines.{AppendsFront, joined}
+use Rattle.std.specs.List.{flat_map}
+use Rattle.argon2_programs.specs.Lines.{AppendsFront}
 
 -- the first bytes of a text are a front of it
 pub first_are_front : (i : ℕ) (text : List ℕ) (a b : Option (List ℕ)) → Appends a b (take i text) → AppendsFront a b text
 first_are_front i text a b grown = (take i text, drop i text, sym (take-append-drop i text), grown)
+
+-- so is all of it
+pub whole_is_front : (text : List ℕ) (a b : Option (List ℕ)) → Appends a b text → AppendsFront a b text
+whole_is_front text a b grown = (text, [], sym (append-nil text), grown)
 
 -- the first bytes, and then the next ones, are the first bytes
 pub first_and_next : (i j : ℕ) (text : List ℕ) (a b c : Option (List ℕ)) → Appends a b (take i text)
@@ -34,16 +38,13 @@ front_of_longer text more a b (front, rest, is, grown) =
 pub front_that_stays : (text : List ℕ) (a b c : Option (List ℕ)) → AppendsFront a b text → Keeps b c → AppendsFront a c text
 front_that_stays text a b c (front, rest, is, grown) same = (front, rest, is, Appends-kept a b c front grown same)
 
--- the parts before one, and then a front of that, are a front of all parts
-pub front_of_parts : (parts : List (Bor (List ℕ))) (i : ℕ) (d : Bor (List ℕ)) (end : List ℕ) (a b c : Option (List ℕ))
-    → i < length parts → Appends a b (joined (take i parts)) → AppendsFront b c (slice_index_or parts i d).now
-    → AppendsFront a c (joined parts ++ end)
-front_of_parts parts i d end a b c lt before part =
-    let x = (slice_index_or parts i d).now in
-    let after = joined (drop (i + 1) parts) in
-    let split : joined parts ≡ joined (take i parts) ++ (x ++ after) =
-    ap joined (sym (take-append-drop i parts)) ∙ flat_map-append _ (take i parts) (drop i parts)
-    ∙ ap (λ l. joined (take i parts) ++ l) (ap joined (drop_more parts i d lt)
-    ∙ flat_map-cons (λ (r : Bor (List ℕ)). r.now) (slice_index_or parts i d) (drop (i + 1) parts)) in
-    front_of_longer _ end a c
-    (subst (AppendsFront a c) (sym split) (text_and_front _ _ a b c before (front_of_longer x after b c part)))
+-- the pieces of the values before one, and then a front of that one's, are a front of all pieces
+pub front_of_each : {A : Type 0} (f : A → List ℕ) (xs : List A) (i : ℕ) (d : A) (a b c : Option (List ℕ)) → i < length xs
+    → Appends a b (flat_map f (take i xs)) → AppendsFront b c (f (slice_index_or xs i d)) → AppendsFront a c (flat_map f xs)
+front_of_each f xs i d a b c lt before piece =
+    let x = slice_index_or xs i d in
+    let after = flat_map f (drop (i + 1) xs) in
+    let split : flat_map f xs ≡ flat_map f (take i xs) ++ (f x ++ after) =
+    ap (flat_map f) (sym (take-append-drop i xs)) ∙ flat_map-append f (take i xs) (drop i xs)
+    ∙ ap (λ l. flat_map f (take i xs) ++ l) (ap (flat_map f) (drop_more xs i d lt) ∙ flat_map-cons f x (drop (i + 1) xs)) in
+    subst (AppendsFront a c) (sym split) (text_and_front _ _ a b c before (front_of_longer (f x) after b c piece))

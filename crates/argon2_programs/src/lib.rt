@@ -10,6 +10,6 @@ mod schemes;
 
 pub use arguments::words;
 pub use failure::Failure;
-pub use line::write_line;
+pub use line::{write_bytes, write_line, write_parts};
 pub use prefixes::{after_any, bare, bare_str, begins_any, is_named};
 pub use schemes::{Scheme, scheme_of};

@@ -14,15 +14,25 @@ pub fn write_line<W: Write>(writer: &mut W, parts: &[&[u8]]) -> io::Result<()>
     ensures cut { AppendsFront (W.contents writer.old) (W.contents writer.new)
         (joined parts.now ++ 10 ∷ []) }
 {
-    'parts: for part in parts {
-        write_bytes(writer, part)?;
-    }
+    write_parts(writer, parts)?;
     write_bytes(writer, b"\n")?;
     writer.flush()
 }
 
-// Writes all bytes. `write_all` does not say what is there if it fails.
-fn write_bytes<W: Write>(writer: &mut W, bytes: &[u8]) -> io::Result<()>
+/// Writes the parts of a text. If a write fails, a front of the text is there.
+pub fn write_parts<W: Write>(writer: &mut W, parts: &[&[u8]]) -> io::Result<()>
+    ensures written { OnOk result (Appends (W.contents writer.old) (W.contents writer.new)
+        (joined parts.now)) }
+    ensures cut { AppendsFront (W.contents writer.old) (W.contents writer.new) (joined parts.now) }
+{
+    'parts: for part in parts {
+        write_bytes(writer, part)?;
+    }
+    Ok(())
+}
+
+/// Writes all bytes. If a write fails, a front of them is there. (`write_all` does not say so.)
+pub fn write_bytes<W: Write>(writer: &mut W, bytes: &[u8]) -> io::Result<()>
     ensures written { OnOk result (Appends (W.contents writer.old) (W.contents writer.new) bytes.now) }
     ensures cut { AppendsFront (W.contents writer.old) (W.contents writer.new) bytes.now }
 {

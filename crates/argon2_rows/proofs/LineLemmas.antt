@@ -3,6 +3,7 @@ use Rattle.argon2_rows.proofs.Imports.{AllByRecursion, get-entries, arith, ap, r
 use Rattle.argon2_rows.proofs.Imports.{sought, Advances, with_cursor, IsLineOf, breaks_line, AreLinesOf, AreWritten, Result, Ok, Err, MatchResult, row_of, rows_of, true, false, Written}
 use Rattle.argon2_rows.proofs.Imports.{Appends-kept, Appends-nil, Appends-trans, Keeps, from_key-none, Breaks, Failed}
 use Rattle.std.proofs.lemmas.List.Elements.{All-cons, All-nil}
+use Rattle.argon2_programs.proofs.Fronts.{front_of_longer, text_and_front}
 use Rattle.std.specs.declared.io.Error.{Error}
 use Rattle.argon2_rows.specs.declared.view.View.{View}
 use Rattle.argon2_rows.proofs.RowLemmas.{each_name}
@@ -19,7 +20,8 @@ line_then : (view : View) (e : List ℕ × List ℕ) (es : List (List ℕ × Lis
 line_then view e es old mid new written.All first later = search (arith, Appends-trans, All-cons)
 line_then view e es old mid new Breaks (first, fits) (before, after, at, is, fit, breaks, later) =
     (e ∷ before, after, at, ap (λ l. e ∷ l) is, All-cons (Fits view) e before fits fit, breaks, Appends-trans old mid new _ _ first later)
-line_then view e es old mid new (Failed why) first later = tt
+line_then view e es old mid new (Failed why) (first, fits) (before, after, is, fit, later) =
+    (e ∷ before, after, ap (λ l. e ∷ l) is, All-cons (Fits view) e before fits fit, text_and_front _ _ old mid new first later)
 
 -- the cursor has the rows of these names, and what becomes of their lines is what becomes of all
 abbrev pub IsWriting : View → Shown → Texts → Option (List ℕ) → Option (List ℕ) → Type 0
@@ -53,13 +55,17 @@ module _ (view : View) (now : Shown) (names : Texts) (old mid out : Option (List
   next_row next row (e ∷ left, at, named, rest) moves (Some Breaks) its =
       let line = its e named.0 cc in
       rest out Breaks ([], left, e, refl, All-nil (Fits view), line.1, Appends-kept mid mid out [] (Appends-nil mid) line.0)
-  next_row next row (e ∷ left, at, named, rest) moves (Some (Failed why)) its = tt
+  next_row next row (e ∷ left, at, named, rest) moves (Some (Failed why)) its =
+      let line = its e named.0 cc in
+      rest out (Failed why) (e ∷ [], left, refl, All-cons (Fits view) e [] line.1 (All-nil (Fits view)), front_of_longer _ [] mid out line.0)
 
   -- the last row was written, and the output is flushed
   pub all_written : IsWriting view now names old mid → now.cursors 0 ≡ Some [] → Keeps mid out
       → (done : Result (Unit {0}) Error) (how : Written) → MatchResult done (λ _. how ≡ written.All) (λ why. how ≡ Failed why)
       → AreWritten view names old out how
-  all_written writing ended kept (Err why) how is = rw is tt
   all_written ([], at, named, rest) ended kept (Ok x) how is =
       rw is (rest out written.All (Appends-kept mid mid out [] (Appends-nil mid) kept, All-nil (Fits view)))
-  all_written (e ∷ left, at, named, rest) ended kept (Ok x) how is = absurd cc
+  all_written ([], at, named, rest) ended kept (Err why) how is =
+      rw is (rest out (Failed why)
+      ([], [], refl, All-nil (Fits view), ([], [], refl, Appends-kept mid mid out [] (Appends-nil mid) kept)))
+  all_written (e ∷ left, at, named, rest) ended kept done how is = absurd cc

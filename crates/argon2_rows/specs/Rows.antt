@@ -1,5 +1,5 @@
 -- How a tree of rows holds names with their texts.
-use Rattle.std.specs.Prelude.{◌≡◌, ◌==◌, ◌||◌, ℕ, ◌+◌, ◌/◌, ◌%◌, nat_lt, if◌then◌else◌, Bool, true, false, List, [], ◌∷◌, ◌++◌, map, All, Option, Some, None, IsUtf8, ⊤}
+use Rattle.std.specs.Prelude.{◌≡◌, ◌==◌, ◌||◌, ℕ, ◌+◌, ◌/◌, ◌%◌, nat_lt, if◌then◌else◌, Bool, true, false, List, [], ◌∷◌, ◌++◌, map, All, Option, Some, None, IsUtf8}
 pub use Rattle.std.specs.Io.KnownBytes.{Appends, Keeps}
 use Rattle.std.specs.Char.{encode_utf8, is_control}
 pub use Rattle.std.specs.List.{flat_map, list_any}
@@ -7,6 +7,7 @@ use Rattle.std.specs.Str.{chars}
 pub use Rattle.std.specs.declared.cmp.Ordering.TheVariants.{Less}
 pub use Rattle.sqlite_value.specs.declared.value.Value.TheVariants.{Text}
 pub use Rattle.sqlite_value.specs.Order.{Row}
+pub use Rattle.argon2_programs.specs.Lines.{AppendsFront}
 use Rattle.argon2_rows.specs.Locks.{IsLine}
 use Rattle.argon2_rows.specs.Names.{Texts as Named, slice_cmp, entries, get, nat_cmp}
 use Rattle.argon2_rows.specs.declared.view.View.{View}
@@ -79,18 +80,20 @@ breaks_line Texts name = list_any (λ b. b == 10) name || list_any (λ b. b == 5
 abbrev pub FitLines : View → List (List ℕ × List ℕ) → Type 0
 FitLines view es = All (λ e. breaks_line view e.0 ≡ false) es
 
--- what writing the line of a name did: a name that breaks it has written nothing
+-- what writing the line of a name did: a name that breaks it has written nothing, and a failure a front of the line
 abbrev pub IsLineOf : View → List ℕ × List ℕ → Option (List ℕ) → Option (List ℕ) → Written → Type 0
 IsLineOf view e old new written.All = Appends old new (line view e) × (breaks_line view e.0 ≡ false)
 IsLineOf view e old new Breaks = Keeps old new × (breaks_line view e.0 ≡ true)
-IsLineOf view e old new (Failed why) = ⊤
+IsLineOf view e old new (Failed why) = AppendsFront old new (line view e) × (breaks_line view e.0 ≡ false)
 
--- the lines of these names are written, or those before the first name that breaks it, and no more
+-- the lines of these names are written, or those before the first name that breaks it, and no more; or writing failed, and a
+-- front is there of such lines
 abbrev pub AreLinesOf : View → List (List ℕ × List ℕ) → Option (List ℕ) → Option (List ℕ) → Written → Type 0
 AreLinesOf view es old new written.All = Appends old new (flat_map (line view) es) × FitLines view es
 AreLinesOf view es old new Breaks = (before after : List (List ℕ × List ℕ)) × (e : List ℕ × List ℕ)
     × (es ≡ before ++ e ∷ after) × FitLines view before × (breaks_line view e.0 ≡ true) × Appends old new (flat_map (line view) before)
-AreLinesOf view es old new (Failed why) = ⊤
+AreLinesOf view es old new (Failed why) = (before after : List (List ℕ × List ℕ))
+    × (es ≡ before ++ after) × FitLines view before × AppendsFront old new (flat_map (line view) before)
 
 -- the lines of all names
 abbrev pub AreWritten : View → Named → Option (List ℕ) → Option (List ℕ) → Written → Type 0

@@ -5,11 +5,12 @@ ghost use Rattle.std.specs.Option.{option_map};
 ghost use Rattle.sqlite_trees.specs.View.{IsFailure, KeepsSchema};
 ghost use Rattle.sqlite_trees.specs.declared.error.StoreError.TheVariants.{OutOfMemory};
 ghost use Rattle.argon2_rows.specs.Names.{Texts as Named, get};
-ghost use Rattle.argon2_rows.specs.Rows.{AreLines, AreTexts, AreWritten, IsAccount, IsFoundAs, IsLineOf, digit, line, row_of, rows_of, shown, shown_char, Appends, Text};
+ghost use Rattle.argon2_rows.specs.Rows.{AreLines, AreTexts, AreWritten, IsAccount, IsFoundAs, IsLineOf, digit, line, row_of, rows_of, shown, shown_char, Appends, AppendsFront, Text};
 ghost use Rattle.argon2_rows.specs.declared.view.Written.TheVariants.{All, Failed};
 ghost use Rattle.argon2_rows.specs.Table.{HasRows, IsDue, IsUnwritten, IsHonest, IsOpen, Sees, StaysQuiet, Writes, done_of, plain, Index};
 
 use crate::view::{View, Written};
+use argon2_programs::{write_bytes, write_parts};
 use sqlite_trees::error::StoreError;
 use sqlite_trees::store::{Direction, Store};
 use sqlite_value::order::is_same;
@@ -191,22 +192,23 @@ fn write_line<W: Write>(row: &Row, view: View, output: &mut W) -> Option<Written
 
 // Writes the line of a name with its text.
 fn write_texts<W: Write>(name: &str, text: &[u8], view: View, output: &mut W) -> io::Result<()>
-    ensures { OnOk result
+    ensures written { OnOk result
         (Appends (W.contents output.old) (W.contents output.new) (line view (name.now, text.now))) }
+    ensures cut { AppendsFront (W.contents output.old) (W.contents output.new)
+        (line view (name.now, text.now)) }
 {
-    if let View::Names = view {
-        write_name(name, output)?;
-    } else {
-        output.write_all(name.as_bytes())?;
-        output.write_all(b":")?;
-        output.write_all(text)?;
+    if let View::Texts = view {
+        return write_parts(output, &[name.as_bytes(), b":", text, b"\n"]);
     }
-    output.write_all(b"\n")
+    write_name(name, output)?;
+    write_bytes(output, b"\n")
 }
 
 // Writes a name as a list shows it.
 fn write_name<W: Write>(name: &str, output: &mut W) -> io::Result<()>
-    ensures { OnOk result (Appends (W.contents output.old) (W.contents output.new) (shown name.now)) }
+    ensures written { OnOk result
+        (Appends (W.contents output.old) (W.contents output.new) (shown name.now)) }
+    ensures cut { AppendsFront (W.contents output.old) (W.contents output.new) (shown name.now) }
 {
     for c in name.chars() {
         write_char(c, output)?;
@@ -216,16 +218,18 @@ fn write_name<W: Write>(name: &str, output: &mut W) -> io::Result<()>
 
 // Writes a character of a name as a list shows it.
 fn write_char<W: Write>(c: char, output: &mut W) -> io::Result<()>
-    ensures { OnOk result (Appends (W.contents output.old) (W.contents output.new) (shown_char c)) }
+    ensures written { OnOk result
+        (Appends (W.contents output.old) (W.contents output.new) (shown_char c)) }
+    ensures cut { AppendsFront (W.contents output.old) (W.contents output.new) (shown_char c) }
 {
     if c.is_control() {
         let code = c as u32 as u8;
-        return output.write_all(&[b'\\', b'x', digit(code / 16), digit(code % 16)]);
+        return write_bytes(output, &[b'\\', b'x', digit(code / 16), digit(code % 16)]);
     }
     if c == '\\' {
-        return output.write_all(b"\\\\");
+        return write_bytes(output, b"\\\\");
     }
-    output.write_all(c.encode_utf8(&mut [0; 4]).as_bytes())
+    write_bytes(output, c.encode_utf8(&mut [0; 4]).as_bytes())
 }
 
 // A digit of a hexadecimal number.

@@ -7,7 +7,7 @@ use Rattle.argon2_rows.specs.Table.{HasFailed, HasRows, IsHonest, IsOpen, IsTold
 use Rattle.argon2_rows.specs.declared.view.View.{View}
 use Rattle.argon2_rows.specs.declared.view.Written.TheVariants as written
 use Rattle.argon2_store.specs.Edits.{Edit, IsTooLong, names_after}
-use Rattle.argon2_store.specs.Errors.{is_refusal, FileError, LineError, Breaks, NameTaken, Io, Damaged, Full, TooLong, Closed}
+use Rattle.argon2_store.specs.Errors.{is_refusal, FileError, LineError, Breaks, File, Write, NameTaken, Io, Damaged, Full, TooLong, Closed}
 use Rattle.argon2_store.specs.Opening.{HoldsNames, IsDamaged, Image}
 pub use Rattle.argon2_store.specs.declared.account_file.AccountFile.{AccountFile}
 
@@ -26,7 +26,8 @@ unindexed (Err e) = Err e.1
 abbrev pub WritesLines : View → Texts → Option (List ℕ) → Option (List ℕ) → Result (Unit {0}) LineError → Type 0
 WritesLines view names old new (Ok x) = AreWritten view names old new written.All
 WritesLines view names old new (Err Breaks) = AreWritten view names old new written.Breaks
-WritesLines view names old new (Err _) = ⊤
+WritesLines view names old new (Err (Write e)) = AreWritten view names old new (written.Failed e)
+WritesLines view names old new (Err (File e)) = ⊤
 
 -- the error of an answer
 abbrev pub error_of : {X : Type 0} → Result X FileError → Option FileError

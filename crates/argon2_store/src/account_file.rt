@@ -215,13 +215,13 @@ impl<S: Store> AccountFile<S> {
     }
 
     /// Writes a line for each name, in the order of the names' bytes, and flushes `output`. No clause says that it is
-    /// flushed, nor which part of the lines is written if writing fails.
+    /// flushed.
     ///
     /// # Errors
     /// - [`LineError::Breaks`]: a name [breaks its line](View::breaks_line). The lines before that of the first such
     ///   name are written, and no more.
-    /// - [`LineError::Write`]: `output` can't be written.
-    /// - [`LineError::File`]: those of [`text_of`](AccountFile::text_of).
+    /// - [`LineError::Write`]: `output` can't be written. It has got a front of these lines.
+    /// - [`LineError::File`]: those of [`text_of`](AccountFile::text_of). No clause says which lines are written.
     pub fn write_lines<W: Write>(&mut self, view: View, output: &mut W) -> Result<(), LineError>
         ensures reads { Reads (read_by result) self.old self.new }
         ensures shows { (names : Named) → HasNames self.old names →
