@@ -37,8 +37,8 @@ pub enum AccountError {
     /// The disk or the file has no room.
     #[error("the disk or the file is full")]
     Full,
-    /// The name is too long: its row would have more than a billion bytes.
-    #[error("name is too long")]
+    /// A new name has more than 4096 bytes, or the row would have more than a billion.
+    #[error("name or text is too long")]
     TooLong,
     /// An earlier failure left the file in doubt. It has to be opened again.
     #[error("the file has to be opened again")]

@@ -1,7 +1,7 @@
 //! Writing rows.
 #![tactic(auto, using(crate::proofs::TableLemmas::kept))]
 
-ghost use Rattle.std.specs.Prelude.{◌≡◌, Any, None, Some, IsUtf8, map};
+ghost use Rattle.std.specs.Prelude.{◌≡◌, Any, Err, None, Some, IfErr, IsUtf8, OnOk, map};
 ghost use Rattle.sqlite_trees.specs.View.{KeepsSchema};
 ghost use Rattle.argon2_rows.specs.Names.{AddsEach, Store, Texts, changed, entry_of, get};
 ghost use Rattle.argon2_rows.specs.Rows.{AreTexts};
@@ -30,10 +30,13 @@ impl From<StoreError> for AddError {
     }
 }
 
+/// The most bytes of a new name, and of its text.
+pub const LONGEST: usize = 4096;
+
 /// Writes the row of a name that has none. `row` is memory for a row.
 ///
 /// # Errors
-/// Those of the store, and out of memory.
+/// [`StoreError::Unstorable`] if the name or the text has more than [`LONGEST`] bytes; those of the store, and out of memory.
 pub fn insert<S: Store>(
     store: &mut S,
     row: &mut Row,
@@ -46,8 +49,12 @@ pub fn insert<S: Store>(
     ensures writes { (names : Texts) → (IsHonest S.Store store.old → get names name.now ≡ None) →
         Writes S.Store store.old store.new names (changed names name.now (Some text.now))
         (IsLong (name.now, text.now)) result }
+    ensures short { OnOk result (¬ IsLong (name.now, text.now)) }
     ensures text { IsUtf8 text.now }
 {
+    if name.len() > LONGEST || text.len() > LONGEST {
+        return Err(StoreError::Unstorable);
+    }
     lay(row, name, text)?;
     store.insert(ACCOUNTS, row)
 }
@@ -154,7 +161,8 @@ pub fn undo_failed<S: Store, X>(store: &mut S, done: &Result<X, StoreError>)
 /// # Errors
 /// That of writing, or those of the commit.
 pub fn finish<S: Store>(store: &mut S, done: Result<(), StoreError>) -> Result<(), StoreError>
-    ensures { Finishes S.Store store.old store.new done result }
+    ensures finishes { Finishes S.Store store.old store.new done result }
+    ensures failed { IfErr done (λ e. result ≡ Err e) }
 {
     match done {
         Ok(()) => store.commit(),

@@ -101,7 +101,7 @@ file_error_text OutOfMemory = codes "out of memory"
 file_error_text Io = codes "the disk failed"
 file_error_text Damaged = codes "the file is damaged"
 file_error_text Full = codes "the disk or the file is full"
-file_error_text TooLong = codes "name is too long"
+file_error_text TooLong = codes "name or text is too long"
 file_error_text Closed = codes "the file has to be opened again"
 
 -- what an error of an open prints; of the system's own nothing is known

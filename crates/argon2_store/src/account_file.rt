@@ -46,7 +46,7 @@ impl<S: Store> AccountFile<S> {
     ghost use Rattle.argon2_store.specs.AccountFile.{HasNames, IsClosed, IsErrorAt, Reads, Serves, WritesLines, database_of, unindexed};
     ghost use Rattle.argon2_store.specs.Edits.{adding, additions, locking, option_map, removing, replacing, setting, text_of, unlocking};
 
-    /// Gives a new name a text.
+    /// Gives a new name a text. The name has at most 4096 bytes.
     ///
     /// # Errors
     /// The first of these that holds:
@@ -55,7 +55,8 @@ impl<S: Store> AccountFile<S> {
     /// - [`FileError::OutOfMemory`], [`FileError::Io`], [`FileError::Damaged`], [`FileError::Full`] or
     ///   [`FileError::TooLong`]: the change can't be written.
     pub fn add(&mut self, name: &str, text: &PasswordHash) -> Result<(), FileError>
-        ensures { Serves (adding name.now (text_of text.now) ∷ []) result self.old self.new }
+        ensures call { Serves (adding name.now (text_of text.now) ∷ []) result self.old self.new }
+        ensures short { OnOk result (length name.now ≤ 4096) }
     {
         if self.text_of(name)?.is_some() {
             return Err(FileError::NameTaken);
@@ -149,10 +150,10 @@ impl<S: Store> AccountFile<S> {
         read(self.write_row(name, Some(text.as_str()), Some(bare)))
     }
 
-    /// Adds all of these new names with their texts, or none. They are written together: after a crash in the
-    /// middle of the call the file holds all of them or none. They are written in the order of the names. If `new`
-    /// is in another order, this takes a sorted copy of it; without memory for the copy they are written as they are
-    /// listed, which takes longer.
+    /// Adds all of these new names with their texts, or none. Each name and each text has at most 4096 bytes. They are
+    /// written together: after a crash in the middle of the call the file holds all of them or none. They are written in
+    /// the order of the names. If `new` is in another order, this takes a sorted copy of it; without memory for the copy
+    /// they are written as they are listed, which takes longer.
     ///
     /// # Errors
     /// Each comes with an index into `new`:

@@ -1,7 +1,7 @@
 //! Changes of the rows, each a transaction.
 #![tactic(auto, using(argon2_rows::proofs::TableLemmas::kept))]
 
-ghost use Rattle.std.specs.Prelude.{◌≡◌, IsSomeAnd, map};
+ghost use Rattle.std.specs.Prelude.{◌≡◌, None, IfSome, IsSomeAnd, OnOk, map};
 ghost use Rattle.std.specs.Option.{option_copied};
 ghost use Rattle.argon2_rows.specs.Names.{Texts, changed, entry_of, get};
 ghost use Rattle.argon2_rows.specs.Table.{Changes, HasRows, IsHonest, IsLong, IsOpen, WritesAll};
@@ -25,10 +25,12 @@ impl<S: Store> AccountFile<S> {
         requires open { IsHonest S.Store (database_of self.old) → IsOpen S.Store (database_of self.old) }
         requires known { (names : Texts) → HasRows S.Store (database_of self.old) names →
             IsHonest S.Store (database_of self.old) → get names name.now ≡ option_copied old }
-        ensures { (before : Texts) → HasRows S.Store (database_of self.old) before →
+        ensures changes { (before : Texts) → HasRows S.Store (database_of self.old) before →
             Changes S.Store (database_of self.old) (database_of self.new) before
             (changed before name.now (option_copied new.entry))
             (IsSomeAnd (option_copied new.entry) (λ text. IsLong (name.now, text))) result }
+        ensures short { OnOk result (option_copied old.entry ≡ None →
+            IfSome (option_copied new.entry) (λ text. ¬ IsLong (name.now, text))) }
     {
         let done = match (old, new) {
             (Some(old), Some(new)) => replace(&mut self.store, &mut self.row, name, old, new),

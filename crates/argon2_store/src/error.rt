@@ -32,7 +32,7 @@ pub enum FileError {
     Damaged,
     /// The disk or the file has no room.
     Full,
-    /// The name is too long: its row would have more than a billion bytes.
+    /// A new name or its text has more than 4096 bytes, or the row would have more than a billion.
     TooLong,
     /// An earlier failure left the file in doubt. It has to be opened again.
     Closed,
@@ -63,7 +63,7 @@ impl fmt::Display for FileError {
             FileError::Io => f.write_str("the disk failed"),
             FileError::Damaged => f.write_str("the file is damaged"),
             FileError::Full => f.write_str("the disk or the file is full"),
-            FileError::TooLong => f.write_str("name is too long"),
+            FileError::TooLong => f.write_str("name or text is too long"),
             FileError::Closed => f.write_str("the file has to be opened again"),
         }
     }

@@ -1,7 +1,7 @@
 use Rattle.argon2_passwd.proofs.run.edits.apply.Goals as goal
 
 pub returns-in-Add : goal.returns-in-Add
-returns-in-Add g c = rw c.in-Add.is c.add.ensures
+returns-in-Add g c = rw c.in-Add.is c.add.ensures.call
 
 pub returns-in-Set : goal.returns-in-Set
 returns-in-Set g c = rw c.in-Set.is c.set.ensures

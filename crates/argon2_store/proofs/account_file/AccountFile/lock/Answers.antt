@@ -18,5 +18,5 @@ returns-in_err-locked g c =
 
 pub returns : goal.returns
 returns g c =
-    writes c.in_ok-text.ensures.reads c.in-Some.is c.in_ok-text.ensures.shows (Some _) refl (grind arith) c.write_row.ensures
+    writes c.in_ok-text.ensures.reads c.in-Some.is c.in_ok-text.ensures.shows (Some _) refl (grind arith) c.write_row.ensures.changes
     c.read.ensures

@@ -10,4 +10,4 @@ returns-in_default g c = refuses c.in_ok-text.ensures.reads c.in_default.is c.in
 
 pub returns : goal.returns
 returns g c =
-    writes c.in_ok-text.ensures.reads c.in-Some.is c.in_ok-text.ensures.shows None refl refl c.write_row.ensures c.read.ensures
+    writes c.in_ok-text.ensures.reads c.in-Some.is c.in_ok-text.ensures.shows None refl refl c.write_row.ensures.changes c.read.ensures

@@ -17,4 +17,4 @@ returns-then-ne g c = refuses c.in_ok-text.ensures.reads c.in-Some.is c.in_ok-te
 pub returns : goal.returns
 returns g c =
     writes c.in_ok-text.ensures.reads c.in-Some.is c.in_ok-text.ensures.shows (Some _) (grind arith) (grind arith)
-    c.write_row.ensures c.read.ensures
+    c.write_row.ensures.changes c.read.ensures

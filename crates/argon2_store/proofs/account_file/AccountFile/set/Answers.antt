@@ -10,5 +10,5 @@ returns-in_default g c = refuses c.in_ok-old.ensures.reads c.in_default.is c.in_
 
 pub returns : goal.returns
 returns g c =
-    writes c.in_ok-old.ensures.reads c.in-Some.is c.in_ok-old.ensures.shows (Some _) refl (grind arith) c.write_row.ensures
+    writes c.in_ok-old.ensures.reads c.in-Some.is c.in_ok-old.ensures.shows (Some _) refl (grind arith) c.write_row.ensures.changes
     c.read.ensures

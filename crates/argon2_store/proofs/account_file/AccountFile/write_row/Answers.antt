@@ -20,10 +20,18 @@ written g c before has =
       | in-None-None w ↦ let back = changed_back before before name None (λ other far. refl) in search arith
     ] in
     changes_of g.met.S.Store.settled c.requires.open c.match-old.done c.finish.result has
-    (texts_changed before name (option_copied c.args.new) has.0 c.utf8.name both.0) both.1 c.finish.ensures
+    (texts_changed before name (option_copied c.args.new) has.0 c.utf8.name both.0) both.1 c.finish.ensures.finishes
 
-pub returns : goal.returns
-returns g c = written g (goal.at.returns g c).After-finish
+pub returns-clause-changes : goal.returns-clause-changes
+returns-clause-changes g c = written g (goal.at.returns-clause-changes g c).After-finish
+
+pub returns-clause-short : goal.returns-clause-short
+returns-clause-short g c = elim c.match-old.branch [
+  | in-Some-Some w ↦ search arith
+  | in-Some-None w ↦ search arith
+  | in-None-Some w ↦ search (arith, w.insert-done.ensures.short, c.finish.ensures.failed)
+  | in-None-None w ↦ search arith
+]
 
 pub invariant_of-self : goal.invariant_of-self
 invariant_of-self g c = record { kept = ∥∥₁_map c.args.self.now.kept (λ it. has_either c.finish.result (written g c it.0 it.1)) }
