@@ -17,7 +17,7 @@ pub use Rattle.argon2_store.specs.declared.error.LineError.{LineError}
 pub use Rattle.argon2_store.specs.declared.error.LineError.TheVariants.{Breaks, File, Write}
 pub use Rattle.argon2_store.specs.declared.error.OpenError.{OpenError}
 use Rattle.argon2_store.specs.declared.error.OpenError.TheVariants as no
-use Rattle.argon2_store.specs.declared.error.OpenError.TheVariants.{Path, Busy, HotJournal, NotAccounts}
+use Rattle.argon2_store.specs.declared.error.OpenError.TheVariants.{Path, Busy, HotJournal, LogWithoutFile, LogOfAnother, NotAccounts}
 
 -- what an error of the store is called
 abbrev pub file_error : StoreError → FileError
@@ -109,6 +109,8 @@ abbrev pub open_error_text : OpenError → Option (List ℕ)
 open_error_text (Path why) = None
 open_error_text Busy = Some (codes "the file is in use")
 open_error_text HotJournal = Some (codes "the file has a journal to play back: open it with sqlite3 first")
+open_error_text LogWithoutFile = Some (codes "the file is missing or empty, but its -wal or -journal is there: bring it back, or move that away")
+open_error_text LogOfAnother = Some (codes "the -wal of the file belongs to another user")
 open_error_text no.OutOfMemory = Some (codes "out of memory")
 open_error_text no.Io = Some (codes "the disk failed")
 open_error_text no.Full = Some (codes "the disk or the file is full")

@@ -1,7 +1,7 @@
 //! Accounts in a file.
 #![tactic(auto, using(crate::proofs::FileLemmas::answers))]
 
-ghost use Rattle.std.specs.Prelude.{◌≡◌, ◌↔◌, [], ◌∷◌, false, Err, IsTrue, IfErr, IfOk, OnOk, map, string_bytes};
+ghost use Rattle.std.specs.Prelude.{◌≡◌, ◌≤◌, ◌↔◌, [], ◌∷◌, false, Err, IsTrue, IfErr, IfOk, OnOk, length, map, string_bytes};
 ghost use Rattle.argon2_rows.specs.Names.{Texts as Named, entry_of, get};
 ghost use Rattle.argon2_rows.specs.Table.{HasSome, IsHonest, IsOpen};
 ghost use Rattle.argon2_store.specs.Errors.{is_refusal, read_by};
@@ -256,17 +256,19 @@ impl<T: Start> AccountsAt<T> {
     /// type opens one file, and only `main` names the type, such as `sqlite_std_file::Wary`.
     ///
     /// The file stays open, and locked against other processes, until the value is dropped. A new file and its log are
-    /// for their owner alone: their mode is 0600. If the file is removed while it is opened, that is an error. A new file,
-    /// and one that was empty, is a database with no table before its log is begun, so that `sqlite3` opens it after a
-    /// kill. No clause says so.
+    /// for their owner alone: their mode is 0600. The log gets no right that the file has not. If the file is removed while
+    /// it is opened, that is an error. A new file, one that was empty, and one whose making was cut off is a database with
+    /// no table before its log is begun, so that `sqlite3` opens it after a kill. No clause says so.
     ///
-    /// An open that fails leaves the accounts in the file as they were: see [`failed_open`](crate::failed_open). No clause
-    /// says which error it answers; that of [`open_from`](AccountFile::open_from) does, on two files.
+    /// An open that fails leaves the accounts in the file as they were: see [`failed_open`](crate::failed_open). It removes
+    /// no file. No clause says which error it answers; that of [`open_from`](AccountFile::open_from) does, on two files.
     ///
     /// # Errors
     /// - [`OpenError::Path`]: the system refuses to open or to make the file.
     /// - [`OpenError::Busy`]: another process has it open.
     /// - [`OpenError::HotJournal`]: SQLite was stopped in the middle of a change.
+    /// - [`OpenError::LogWithoutFile`]: a log or a journal lies beside a file that is still to be made. Nothing is written.
+    /// - [`OpenError::LogOfAnother`]: its log belongs to another user, who may not write the file. It is not read.
     /// - [`OpenError::DamagedLog`]: the header of its log is damaged. Nothing is written.
     /// - [`OpenError::NotAccounts`], [`OpenError::Row`]: it holds something else than accounts.
     /// - [`OpenError::Io`], [`OpenError::Full`], [`OpenError::OutOfMemory`].

@@ -144,6 +144,10 @@ pub enum OpenError {
     Busy,
     /// SQLite was stopped in the middle of a change, and has to open the file first.
     HotJournal,
+    /// A log or a journal lies beside the path, and no file is there, or an empty one.
+    LogWithoutFile,
+    /// The log beside the file belongs to another user, who may not write the file.
+    LogOfAnother,
     /// A request for memory was refused.
     OutOfMemory,
     /// The disk failed.
@@ -168,6 +172,10 @@ impl fmt::Display for OpenError {
             OpenError::HotJournal => f.write_str(
                 "the file has a journal to play back: open it with sqlite3 first",
             ),
+            OpenError::LogWithoutFile => f.write_str(
+                "the file is missing or empty, but its -wal or -journal is there: bring it back, or move that away",
+            ),
+            OpenError::LogOfAnother => f.write_str("the -wal of the file belongs to another user"),
             OpenError::OutOfMemory => f.write_str("out of memory"),
             OpenError::Io => f.write_str("the disk failed"),
             OpenError::Full => f.write_str("the disk or the file is full"),

@@ -19,10 +19,10 @@ use sqlite_trees::store::Shape;
 use sqlite_value::keys::Order;
 use sqlite_wal::checksum_of;
 use std::alloc::{AllocFailed, Global};
-use std::fs::{self, File, OpenOptions, TryLockError};
+use std::fs::{self, File, OpenOptions, Permissions, TryLockError};
 use std::hash::{BuildHasher, RandomState};
 use std::io::{self, ErrorKind, Write};
-use std::os::unix::fs::{MetadataExt, OpenOptionsExt};
+use std::os::unix::fs::{FileExt, MetadataExt, OpenOptionsExt, PermissionsExt};
 
 const SQL: &str =
     "CREATE TABLE account (name TEXT NOT NULL PRIMARY KEY, phc TEXT NOT NULL) WITHOUT ROWID";
@@ -147,8 +147,7 @@ pub(crate) fn is_damaged<D: Disk>(log: &mut D) -> io::Result<bool>
 }
 
 // The error of the system on a new file.
-fn refused(error: io::Error) -> OpenError
-{
+fn refused(error: io::Error) -> OpenError {
     match error.kind() {
         ErrorKind::OutOfMemory => OpenError::OutOfMemory,
         ErrorKind::StorageFull => OpenError::Full,
@@ -156,26 +155,41 @@ fn refused(error: io::Error) -> OpenError
     }
 }
 
-// Makes a file for its owner alone, or opens one that is empty, and says which. `None` is anything else that has the name.
-fn empty_file(rt: &HostRuntime, path: &str) -> io::Result<Option<(File, bool)>> {
-    let made = OpenOptions::new()
-        .write(true)
-        .create_new(true)
-        .mode(0o600)
-        .open(rt, path);
-    match made {
-        Ok(file) => return Ok(Some((file, true))),
+// The first page of a database without tables.
+fn first_page() -> [u8; PAGE] {
+    let mut page = [0; PAGE];
+    page[..FIRST.len()].copy_from_slice(&FIRST);
+    page
+}
+
+// Whether a database is still to be made in a file: it has a front of the first page, or zeros alone, as a making leaves that a
+// kill or the loss of power cut off.
+fn is_unmade(file: &File) -> io::Result<bool> {
+    let len = file.metadata()?.len();
+    if len > PAGE as u64 {
+        return Ok(false);
+    }
+    let len = len as usize;
+    let mut found = [0; PAGE];
+    file.read_exact_at(&mut found[..len], 0)?;
+    Ok(found == [0; PAGE] || len < PAGE && found[..len] == first_page()[..len])
+}
+
+// Makes a file for its owner alone, or opens a small one. `None` is anything else that has the name.
+fn small_file(rt: &HostRuntime, path: &str) -> io::Result<Option<File>> {
+    let mut made = OpenOptions::new();
+    made.read(true).write(true).create_new(true).mode(0o600);
+    match made.open(rt, path) {
+        Ok(file) => return Ok(Some(file)),
         Err(error) if error.kind() == ErrorKind::AlreadyExists => {}
         Err(error) => return Err(error),
     }
     match fs::metadata(rt, path) {
-        Ok(found) if found.is_file() && found.len() == 0 && found.nlink() == 1 => {}
+        Ok(found) if found.is_file() && found.len() <= PAGE as u64 && found.nlink() == 1 => {}
         _ => return Ok(None),
     }
-    let Ok(file) = OpenOptions::new().write(true).open(rt, path) else {
-        return Ok(None);
-    };
-    Ok(Some((file, false)))
+    let found = OpenOptions::new().read(true).write(true).open(rt, path);
+    Ok(found.ok())
 }
 
 // Whether the path names this file.
@@ -184,12 +198,29 @@ fn is_at(rt: &HostRuntime, file: &File, path: &str) -> io::Result<bool> {
     Ok(found.dev() == named.dev() && found.ino() == named.ino())
 }
 
-// Writes a database with no table into an empty file. It has one page, which is written whole before there is a log, so that
-// sqlite3 opens what a kill leaves. A failure leaves the file empty.
+// Whether anything has the name of the path with this ending.
+fn is_beside(rt: &HostRuntime, path: &str, ending: &str) -> Result<bool, OpenError> {
+    let name = format!(in rt.alloc(); "{path}{ending}")?;
+    match fs::symlink_metadata(rt, name.as_str()) {
+        Ok(_) => Ok(true),
+        Err(error) if error.kind() == ErrorKind::NotFound => Ok(false),
+        Err(error) => Err(refused(error)),
+    }
+}
+
+// Refuses a path beside which a log or a journal lies. Into a new database it would bring the rows of another one.
+fn check_alone(rt: &HostRuntime, path: &str) -> Result<(), OpenError> {
+    if is_beside(rt, path, "-wal")? || is_beside(rt, path, "-journal")? {
+        return Err(OpenError::LogWithoutFile);
+    }
+    Ok(())
+}
+
+// Writes a database with no table into a file, for its owner alone. It has one page, which is written whole before there is a log,
+// so that sqlite3 opens what a kill leaves. A failure to write it leaves the file empty.
 fn begin(file: &mut File) -> io::Result<()> {
-    let mut page = [0; PAGE];
-    page[..FIRST.len()].copy_from_slice(&FIRST);
-    let done = file.write_all(&page);
+    file.set_permissions(Permissions::from_mode(0o600))?;
+    let done = file.write_all(&first_page());
     if done.is_err() {
         file.set_len(0)?;
     }
@@ -197,36 +228,32 @@ fn begin(file: &mut File) -> io::Result<()> {
     file.sync_all()
 }
 
-// Makes a database for its owner alone, or in a file that is empty, unless something else has its name. The kit's open would
-// make a file that all may read.
-fn make(rt: &HostRuntime, path: &str) -> Result<(), OpenError>
-{
-    let (mut file, is_new) = match empty_file(rt, path) {
-        Ok(Some(found)) => found,
+// Makes a database for its owner alone, also in a file whose making was cut off, unless something else has its name. The kit's open
+// would make a file that all may read. A file is never removed: another process may have it open.
+fn make(rt: &HostRuntime, path: &str) -> Result<(), OpenError> {
+    if !is_beside(rt, path, "")? {
+        check_alone(rt, path)?;
+    }
+    let mut file = match small_file(rt, path) {
+        Ok(Some(file)) => file,
         Ok(None) => return Ok(()),
         Err(error) => return Err(refused(error)),
     };
-    // Of the processes that open the file by this call one writes the page. SQLite takes another lock, for which std has no call.
-    let begun = match file.try_lock() {
-        Ok(()) => {
-            // Before the lock another process may have written or replaced the file.
-            if file.metadata()?.len() != 0 || !is_at(rt, &file, path)? {
-                return Ok(());
-            }
-            begin(&mut file)
-        }
-        Err(TryLockError::WouldBlock) => return Err(OpenError::Busy),
-        Err(TryLockError::Error(error)) => Err(error),
-    };
-    match begun {
-        Ok(()) => Ok(()),
-        Err(error) => {
-            if is_new {
-                fs::remove_file(rt, path)?;
-            }
-            Err(refused(error))
-        }
+    if !is_unmade(&file)? {
+        return Ok(());
     }
+    // Of the processes that open the file by this call one writes the page. SQLite takes another lock, for which std has no call.
+    match file.try_lock() {
+        Ok(()) => {}
+        Err(TryLockError::WouldBlock) => return Err(OpenError::Busy),
+        Err(TryLockError::Error(error)) => return Err(refused(error)),
+    }
+    // Before the lock another process may have written or replaced the file.
+    if !is_unmade(&file)? || !is_at(rt, &file, path)? {
+        return Ok(());
+    }
+    check_alone(rt, path)?;
+    begin(&mut file).map_err(refused)
 }
 
 // The regular file at a path.
@@ -235,6 +262,44 @@ fn held(rt: &HostRuntime, path: &str) -> io::Result<File> {
         return Err(ErrorKind::Unsupported.into());
     }
     File::open(rt, path)
+}
+
+// Makes what the kit's open left of a file that was removed meanwhile its owner's alone, and removes the empty log. The kit still
+// locks the file, behind which a log is opened, so no other process has this one.
+fn narrow(rt: &HostRuntime, path: &str) -> Result<(), OpenError> {
+    let file = held(rt, path)?;
+    let log = format!(in rt.alloc(); "{path}-wal")?;
+    if file.metadata()?.len() == 0 && fs::symlink_metadata(rt, log.as_str())?.len() == 0 {
+        file.set_permissions(Permissions::from_mode(0o600))?;
+        fs::remove_file(rt, log.as_str())?;
+    }
+    Ok(())
+}
+
+// Refuses a log of another owner than the file's, unless others may write the file too, and leaves it no right that the file has
+// not.
+fn check_log(rt: &HostRuntime, file: &File, path: &str) -> Result<(), OpenError> {
+    let log = held(rt, format!(in rt.alloc(); "{path}-wal")?.as_str())?;
+    let (found, of_file) = (log.metadata()?, file.metadata()?);
+    if found.uid() != of_file.uid() && of_file.mode() & 0o022 == 0 {
+        return Err(OpenError::LogOfAnother);
+    }
+    if found.mode() & !of_file.mode() & 0o777 != 0 {
+        log.set_permissions(Permissions::from_mode(of_file.mode() & 0o777))?;
+    }
+    Ok(())
+}
+
+// The path with no link in it: as in SQLite, the files lie where a link leads.
+fn resolve(rt: &HostRuntime, path: &str) -> Result<String, OpenError> {
+    match fs::canonicalize(rt, path) {
+        Ok(real) => Ok(String::from_str(rt.alloc(), real.as_str())?),
+        Err(error) if error.kind() == ErrorKind::NotFound => Ok(String::from_str(
+            rt.alloc(),
+            path,
+        )?),
+        Err(error) => Err(refused(error)),
+    }
 }
 
 // Opens the files at a path, or makes them, and draws a seed.
@@ -248,13 +313,17 @@ pub(crate) fn open_path<T: Start>(
     ensures fresh { IfOk result (λ it. IsFresh true it.0.log × IsFresh false it.0.db) }
     ensures synced { IfOk result (λ it. AreSynced ⟦<FileFrom<T> as Disk>⟧ (it.0.log, it.0.db)) }
 {
+    let path = resolve(rt, path)?;
+    let path = path.as_str();
     make(rt, path)?;
     let held = held(rt, path)?;
     let files = sqlite_std_file::open(rt, path, start)?;
     // If the file was removed meanwhile, the kit's open has made one that all may read.
     if !is_at(rt, &held, path)? {
+        narrow(rt, path)?;
         return Err(OpenError::Path(ErrorKind::NotFound.into()));
     }
+    check_log(rt, &held, path)?;
     let state = RandomState::new(rt)?;
     Ok((files, state.hash_one(&0u8)))
 }
