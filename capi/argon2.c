@@ -220,16 +220,16 @@ int argon2_ctx(argon2_context *context, argon2_type type) {
 int argon2_hash(uint32_t t_cost, uint32_t m_cost, uint32_t lanes, const void *pwd, size_t pwdlen, const void *salt,
     size_t saltlen, void *hash, size_t hashlen, char *encoded, size_t encodedlen, argon2_type type, uint32_t version) {
     argon2_context c = {
-        .out = nothing /* while it may be refused */, .outlen = hashlen, .pwd = (uint8_t *)pwd, .pwdlen = pwdlen,
-        .salt = (uint8_t *)salt, .saltlen = saltlen, .t_cost = t_cost, .m_cost = m_cost, .lanes = lanes,
-        .threads = lanes, .version = version,
+        .out = nothing /* while it may be refused */, .outlen = (uint32_t)hashlen /* lengths above are refused first */,
+        .pwd = (uint8_t *)pwd, .pwdlen = (uint32_t)pwdlen, .salt = (uint8_t *)salt, .saltlen = (uint32_t)saltlen,
+        .t_cost = t_cost, .m_cost = m_cost, .lanes = lanes, .threads = lanes, .version = version,
     };
     size_t room = 0; /* for the text, exactly */
     int answer = argon2_c_length_refusal(hashlen, pwdlen, saltlen);
     if (answer == ARGON2_OK) answer = refusal(&c, type);
     if (answer != ARGON2_OK) return answer;
     if (encoded && encodedlen) {
-        room = argon2_encodedlen(t_cost, m_cost, lanes, saltlen, hashlen, type);
+        room = argon2_encodedlen(t_cost, m_cost, lanes, c.saltlen, c.outlen, type);
         if (encodedlen < room) return ARGON2_ENCODING_FAIL;
     }
     c.out = malloc(hashlen + room);
@@ -271,9 +271,9 @@ int argon2_verify(const char *encoded, const void *pwd, size_t pwdlen, argon2_ty
         length(room, 2 * n));
     if (answer == ARGON2_OK) {
         const argon2_context c = {
-            .out = room + shown.salt + shown.tag, .outlen = shown.tag, .pwd = (uint8_t *)pwd, .pwdlen = pwdlen, .salt = room,
-            .saltlen = shown.salt, .t_cost = shown.t_cost, .m_cost = shown.m_cost, .lanes = shown.lanes,
-            .threads = shown.lanes, .version = shown.version,
+            .out = room + shown.salt + shown.tag, .outlen = (uint32_t)shown.tag, .pwd = (uint8_t *)pwd,
+            .pwdlen = (uint32_t)pwdlen, .salt = room, .saltlen = (uint32_t)shown.salt, .t_cost = shown.t_cost,
+            .m_cost = shown.m_cost, .lanes = shown.lanes, .threads = shown.lanes, .version = shown.version,
         };
         answer = hash_into(&c, type, c.out);
         if (answer == ARGON2_OK) answer = argon2_c_compare(room + c.saltlen, c.outlen, c.out, c.outlen);

@@ -81,8 +81,9 @@ static size_t hash_length(const argon2p_params *p) {
 static argon2_context context_of(const argon2p_params *p, const void *pwd, size_t pwd_len, const void *salt, size_t salt_len,
     uint8_t *out, size_t out_len) {
     return (argon2_context){
-        .out = out, .outlen = out_len, .pwd = (uint8_t *)pwd, .pwdlen = pwd_len, .salt = (uint8_t *)salt, .saltlen = salt_len,
-        .secret = (uint8_t *)p->secret, .secretlen = p->secret_len, .ad = (uint8_t *)p->data, .adlen = p->data_len,
+        .out = out, .outlen = (uint32_t)out_len, .pwd = (uint8_t *)pwd, .pwdlen = (uint32_t)pwd_len,
+        .salt = (uint8_t *)salt, .saltlen = (uint32_t)salt_len, .secret = (uint8_t *)p->secret,
+        .secretlen = (uint32_t)p->secret_len, .ad = (uint8_t *)p->data, .adlen = (uint32_t)p->data_len,
         .t_cost = p->t_cost, .m_cost = p->m_cost, .lanes = p->p_cost,
         .threads = p->threads && p->threads < p->p_cost ? p->threads : p->p_cost, .version = p->version,
     };
@@ -236,7 +237,7 @@ static int verify_refusal(const struct verifying *v, const void *secret, size_t 
 static int verify_under(const struct verifying *v, argon2_context *c, const void *secret, size_t n, block *memory) {
     uint8_t tag[ARGON2P_MAX_OUTPUT];
     int answer;
-    c->out = tag, c->secret = (uint8_t *)secret, c->secretlen = n;
+    c->out = tag, c->secret = (uint8_t *)secret, c->secretlen = (uint32_t)n;
     if (worker_count(c) > 1) {
         answer = hash_on(c, v->shown->algorithm, tag, memory, true);
         if (answer == ARGON2_OK) answer = argon2_c_compare(v->shown->output, v->shown->output_len, tag, c->outlen);
@@ -270,8 +271,9 @@ int argon2p_verify(const argon2p_verifier *verifier, const char *text, size_t te
     if (answer == ARGON2P_OK) answer = argon2_c_phc_show(v.text, v.text_len, &shown);
     if (answer != ARGON2P_OK) return answer;
     c = (argon2_context){
-        .outlen = shown.output_len, .pwd = (uint8_t *)v.pwd, .pwdlen = pwd_len, .salt = shown.salt, .saltlen = shown.salt_len,
-        .ad = shown.associated, .adlen = shown.associated_len, .t_cost = shown.t_cost, .m_cost = shown.m_cost, .lanes = shown.p_cost,
+        .outlen = shown.output_len, .pwd = (uint8_t *)v.pwd, .pwdlen = (uint32_t)pwd_len,
+        .salt = shown.salt, .saltlen = shown.salt_len, .ad = shown.associated, .adlen = shown.associated_len,
+        .t_cost = shown.t_cost, .m_cost = shown.m_cost, .lanes = shown.p_cost,
         .threads = own.threads && own.threads < shown.p_cost ? own.threads : shown.p_cost, .version = shown.version,
     };
     memory = new_blocks(block_count(&c));

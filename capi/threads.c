@@ -44,7 +44,7 @@ static uint32_t worker_count(const argon2_context *c) {
     uint32_t usable = CPU_SETSIZE;
     cpu_set_t set;
     if (useful == 1 || block_count(c) < FROM_HERE_IN_THREADS) return 1;
-    if (sched_getaffinity(0, sizeof set, &set) == 0) usable = CPU_COUNT(&set);
+    if (sched_getaffinity(0, sizeof set, &set) == 0) usable = (uint32_t)CPU_COUNT(&set);
     errno = error;
     if (usable == 0) return 1; /* a filter of system calls can answer that all went well and write nothing */
     return useful < usable ? useful : usable;
