@@ -244,6 +244,7 @@ static int verify_under(const struct verifying *v, argon2_context *c, const void
         wipe(tag, sizeof tag);
     } else {
         answer = argon2_c_phc_verify(v->bound, v->text, v->text_len, v->pwd, v->pwd_len, some(secret), n, memory, block_count(c));
+        if (answer == ARGON2_INCORRECT_PARAMETER) answer = ARGON2P_TEXT_INVALID; /* it was changed, and now needs more memory */
         wipe(memory, block_count(c) * sizeof(block));
     }
     return answer;

@@ -21,10 +21,14 @@ static int requests;
 #define REFUSES
 static int refuse;
 static long unwiped = -1;
+static char *changing; /* becomes 9 at a request */
 void *__libc_malloc(size_t);
 void __libc_free(void *);
 
-void *malloc(size_t n) { return counting && ++requests >= refuse && refuse ? NULL : __libc_malloc(n); }
+void *malloc(size_t n) {
+    if (changing) *changing = '9', changing = NULL;
+    return counting && ++requests >= refuse && refuse ? NULL : __libc_malloc(n);
+}
 
 void free(void *at) {
     for (size_t i = 0, n = malloc_usable_size(at) / 8; unwiped >= 0 && n >= 1 << 12 && i < n; i++)
@@ -492,6 +496,13 @@ static void stacks_of_calls(void) {
 #endif
 
 #ifdef REFUSES
+/* A text that asks for more memory once its memory is there. */
+static void changed_text(void) {
+    char text[] = PLAIN;
+    changing = strchr(text, '6');
+    check(verify(verifier(), text, "password", NULL) == ARGON2P_TEXT_INVALID && strstr(text, "m=94"), "a changed text", 0);
+}
+
 static void refused_memory(void) {
     refuse = 1, stacks_of_calls(), refuse = 0;
     for (int which = 0; which < 4; which++) {
@@ -514,7 +525,7 @@ int main(void) {
     stacks_of_calls();
 #endif
 #ifdef REFUSES
-    refused_memory();
+    changed_text(), refused_memory();
 #endif
     return ended();
 }
