@@ -57,7 +57,13 @@ static bool is_read(void *own, size_t known, const void *given) {
 }
 
 static int read_params(argon2p_params *own, const argon2p_params *given) {
-    return is_read(own, sizeof *own, given) && own->reserved == 0 ? ARGON2P_OK : ARGON2P_STRUCT;
+    const bool is_known = is_read(own, sizeof *own, given) && own->reserved == 0;
+    return is_known && (own->has_output_len || !own->output_len) ? ARGON2P_OK : ARGON2P_STRUCT;
+}
+
+static int read_verifier(argon2p_verifier *own, const argon2p_verifier *given) {
+    const bool is_known = is_read(own, sizeof *own, given) && own->reserved == 0;
+    return is_known && (own->has_old_secret || (!own->old_secret && !own->old_secret_len)) ? ARGON2P_OK : ARGON2P_STRUCT;
 }
 
 static bool lacks(const void *at, size_t n) { return !at && n; }
@@ -259,11 +265,10 @@ int argon2p_verify(const argon2p_verifier *verifier, const char *text, size_t te
     argon2_context c;
     block *memory;
     bool is_old = false;
-    int answer;
-    if (!is_read(&own, sizeof own, verifier) || own.reserved != 0) return ARGON2P_STRUCT;
+    int answer = read_verifier(&own, verifier);
+    if (answer != ARGON2P_OK) return answer;
     if (lacks(text, text_len)) return ARGON2P_TEXT_NULL;
     if (lacks(pwd, pwd_len)) return ARGON2P_PASSWORD_NULL;
-    if (!own.has_old_secret) own.old_secret = NULL, own.old_secret_len = 0;
     if (lacks(own.secret, own.secret_len) || lacks(own.old_secret, own.old_secret_len)) return ARGON2P_SECRET_NULL;
     bound = (struct phc_bound){own.m_cost, own.t_cost, own.p_cost, own.min_output, own.max_output};
     v = (struct verifying){&bound, &shown, some(text), text_len, some(pwd), pwd_len};
@@ -383,7 +388,7 @@ const char *argon2p_error_message(int code) {
     case ARGON2P_DATA_NULL: return "The pointer to the associated data is NULL, but its length is not 0";
     case ARGON2P_OUT_OF_MEMORY: return "Out of memory";
     case ARGON2P_MISMATCH: return "The text does not accept the password";
-    case ARGON2P_STRUCT: return "A structure is missing, or of another size or version";
+    case ARGON2P_STRUCT: return "A structure is missing, of another size or version, or has a value without its has_ member";
     case ARGON2P_TEXT_NULL: return "The pointer to the text is NULL";
     case ARGON2P_KEYID_NULL: return "The pointer to the key identifier is NULL, but its length is not 0";
     case ARGON2P_BLOCKS_NULL: return "The pointer to the blocks is NULL, or not aligned";

@@ -79,7 +79,8 @@ typedef enum argon2p_code {
 
     /* of a call */
     ARGON2P_STRUCT = -64,             /* a structure is not there, has a size that the library does not know, or has a
-                                         member behind those that it knows that is not zero */
+                                         member behind those that it knows that is not zero; or it has an output_len, but
+                                         has_output_len is 0, or an old secret, but has_old_secret is 0 */
     ARGON2P_TEXT_NULL = -65,
     ARGON2P_KEYID_NULL = -66,
     ARGON2P_BLOCKS_NULL = -67,        /* lent blocks are not there, or not aligned to 8 bytes */
@@ -119,7 +120,7 @@ typedef struct argon2p_params {
     uint32_t t_cost;         /* passes: 1 or more */
     uint32_t p_cost;         /* lanes: 1 to 16777215. They change the tag */
     uint32_t threads;        /* the most threads that fill the lanes; 0 is as many as lanes. They do not change the tag */
-    size_t output_len;       /* bytes of each output, if the next member is not 0: 4 or more, in a text 4 to 64 */
+    size_t output_len;       /* bytes of each output: 4 or more, in a text 4 to 64; 0 if the next member is 0 */
     uint32_t has_output_len; /* if it is 0, a text has a hash of 32 bytes, and a tag has any length from 4 bytes on */
     uint32_t reserved;       /* 0 */
     const void *secret;      /* enters each hash, and stands in no text */
@@ -147,7 +148,7 @@ typedef struct argon2p_verifier {
     uint32_t reserved;       /* 0 */
     const void *secret;
     size_t secret_len;
-    const void *old_secret;  /* it may have no bytes: then texts that were made without a secret are accepted too */
+    const void *old_secret;  /* NULL if has_old_secret is 0. It may have no bytes: then texts without a secret are accepted too */
     size_t old_secret_len;
 } argon2p_verifier;
 

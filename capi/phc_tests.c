@@ -117,8 +117,10 @@ static void old_secrets(void) {
     check(verify(v, OLD, "password", &by_old) == ARGON2P_MISMATCH && by_old == 7, "a refusal sets nothing", 0);
     check(verify(v, TEXT, "password", &by_old) == ARGON2P_OK && by_old == 0, "no old secret", 0);
     v.old_secret = "old", v.old_secret_len = 3;
-    check(verify(v, OLD, "password", &by_old) == ARGON2P_MISMATCH, "an old secret that is not switched on", 0);
-    v.has_old_secret = 1, by_old = 7;
+    check(verify(v, OLD, "password", &by_old) == ARGON2P_STRUCT, "an old secret without has_old_secret", 0);
+    v.old_secret_len = 0, check(verify(v, OLD, "password", &by_old) == ARGON2P_STRUCT, "its pointer", 0);
+    v.old_secret = NULL, v.old_secret_len = 3, check(verify(v, OLD, "password", &by_old) == ARGON2P_STRUCT, "its length", 0);
+    v.old_secret = "old", v.has_old_secret = 1, by_old = 7;
     check(verify(v, OLD, "password", &by_old) == ARGON2P_OK && by_old == 1, "an old secret", 0);
     check(verify(v, TEXT, "password", &by_old) == ARGON2P_OK && by_old == 0, "the new one before it", 0);
     check(verify(v, OLD, "passwore", NULL) == ARGON2P_MISMATCH, "an old secret and another password", 0);
@@ -159,7 +161,7 @@ struct fault {
 
 /* In the order of refusal. */
 static const struct fault faults[] = {
-    IN_PARAMS(size, 3, ARGON2P_STRUCT), IN_PARAMS(reserved, 1, ARGON2P_STRUCT),
+    IN_PARAMS(size, 3, ARGON2P_STRUCT), IN_PARAMS(reserved, 1, ARGON2P_STRUCT), IN_PARAMS(has_output_len, 0, ARGON2P_STRUCT),
     IN_PARAMS(secret, 0, ARGON2P_SECRET_NULL), IN_PARAMS(data, 0, ARGON2P_DATA_NULL), IN_PARAMS(keyid, 0, ARGON2P_KEYID_NULL),
     IN_PARAMS(m_cost, 7, ARGON2P_MEMORY_TOO_LITTLE), IN_PARAMS(p_cost, 0, ARGON2P_LANES_TOO_FEW),
     IN_PARAMS(p_cost, 1 << 24, ARGON2P_LANES_TOO_MANY), IN_PARAMS(p_cost, 9, ARGON2P_MEMORY_TOO_LITTLE),
@@ -197,7 +199,7 @@ static void codes(void) {
         check(argon2p_encode(&p, "somesalt", 8, tag, 32, text, sizeof text) == faults[i].code, "of a text that is written", i);
         if (faults[i].code != ARGON2P_SECRET_NULL && faults[i].code != ARGON2P_SECRET_TOO_LONG)
             check(argon2p_needs_rehash(&p, TEXT, strlen(TEXT), &answer) == faults[i].code, "of what is wanted", i);
-        if (is_raw && i > 1) {
+        if (is_raw) {
             if (faults[i].code == ARGON2P_DATA_TOO_LONG) p.data_len = big;
             check(argon2p_hash_into(&p, "password", 8, "somesalt", 8, out, 32, NULL, 0) == faults[i].code, "of a tag", i);
             check(argon2p_fill_memory(&p, "password", 8, "somesalt", 8, &block, 1) == faults[i].code, "of memory", i);
