@@ -152,8 +152,9 @@ typedef struct argon2p_verifier {
     size_t old_secret_len;
 } argon2p_verifier;
 
-/* At most 2 GiB, 64 passes and 64 lanes, a hash of any length that a text may have, and no secret. */
-#define ARGON2P_VERIFIER_INIT {sizeof(argon2p_verifier), 2097152, 64, 64, 0, 64, 0, 0, 0, NULL, 0, NULL, 0}
+/* At most 2 GiB, 64 passes and 64 lanes, a hash of 16 to 64 bytes, and no secret. The worst text takes 2 GiB and half a minute of
+ * a processor or more, twice that if an old secret is tried. A service sets less: what its own texts need. */
+#define ARGON2P_VERIFIER_INIT {sizeof(argon2p_verifier), 2097152, 64, 64, 16, 64, 0, 0, 0, NULL, 0, NULL, 0}
 
 /* What a text shows. The call that fills it needs `size`, and writes no byte behind it. */
 typedef struct argon2p_shown {

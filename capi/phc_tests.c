@@ -104,8 +104,11 @@ static void known_texts(void) {
     check(argon2p_hash(&p, NULL, 0, "saltsaltsaltsalt", 16, text, sizeof text) == ARGON2P_OK && !strcmp(text, SHORT), "Argon2d", 0);
     check(verify(v, TEXT, "password", NULL) == ARGON2P_OK, "verifying it", 0);
     check(verify(v, FIRST, "password", NULL) == ARGON2P_OK, "Argon2i, version 0x10", 1);
+    check(argon2p_verify(&v, SHORT, strlen(SHORT), NULL, 0, NULL) == ARGON2P_OUTPUT_OUT_OF_BOUND, "a hash of 4 bytes", 0);
+    v.min_output = 4;
     check(argon2p_verify(&v, SHORT, strlen(SHORT), NULL, 0, NULL) == ARGON2P_OK, "an empty password", 0);
     check(argon2p_verify(&v, TEXT "$", strlen(TEXT), "password", 8, NULL) == ARGON2P_OK, "a text by its length", 0);
+    check(argon2p_verify(&v, TEXT, sizeof TEXT, "password", 8, NULL) == ARGON2P_TEXT_INVALID, "with its zero byte", 0);
     check(verify(v, TEXT, "passwore", NULL) == ARGON2P_MISMATCH, "another password", 0);
     check(verify(v, OLD, "password", NULL) == ARGON2P_MISMATCH, "another secret", 0);
     check(verify(v, PLAIN, "password", NULL) == ARGON2P_MISMATCH, "no secret", 0);
@@ -271,6 +274,7 @@ static const struct {
     {"$argon2x$v=18$m=8,t=1,p=1$c29tZXNhbHQ", ARGON2P_TEXT_INCOMPLETE, ARGON2P_ALGORITHM},
     {"$argon2x$v=18$m=8,t=1,p=1$c29tZXNhbHQ$bQk8UB8", ARGON2P_ALGORITHM, 1},
     {"$argon2id$v=18$m=8,t=1,p=1$c29tZXNhbHQ$bQk8UB8", ARGON2P_VERSION, 1},
+    {"$argon2id$v=19$m=2097152,t=64,p=64$c29tZXNhbHQ$bQk8UB8kLZo3abfw9+PD", ARGON2P_OUTPUT_OUT_OF_BOUND, ARGON2P_OK},
 };
 
 static void refused_texts(void) {
