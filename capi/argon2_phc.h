@@ -9,11 +9,13 @@
  * gives. It then writes nothing, except where its comment says so. The codes below -63 are of this header; the others mean what
  * argon2.h's code of that number means.
  *
- * A pointer may be NULL if its length is 0. Null pointers, and structures that the library does not know, are found before all else.
- * No output may overlap an input.
+ * A pointer to an input may be NULL if its length is 0. A pointer to a result may not, unless the comment says so. Null pointers
+ * and structures that are not valid are found before all else. No output may overlap an input, and no input may change during a
+ * call.
  *
- * Memory for a hash is that of malloc, and is requested after all checks. It is wiped before it is freed. All functions may be
- * called by several threads at once. What argon2.h says on stacks and threads is true here.
+ * Memory for a hash is that of malloc, and is requested after all checks. It is wiped before it is freed, unless a program sets
+ * FLAG_clear_internal_memory of argon2.h to 0. All functions may be called by several threads at once. What argon2.h says on
+ * stacks and threads is true here.
  */
 #ifndef ARGON2_PHC_H
 #define ARGON2_PHC_H
@@ -188,7 +190,8 @@ typedef struct argon2p_block {
     uint64_t words[128];
 } argon2p_block;
 
-/* ---- passwords and texts: a text is given with its length and needs no zero byte */
+/* ---- passwords and texts: the length of a text that is read is its strlen. The text needs no zero byte, and one within its
+ * length is TEXT_INVALID */
 
 /*
  * Writes the text of a password with a zero byte behind it into `room` bytes at `text`. If `salt` is NULL and `salt_len` is 0,
