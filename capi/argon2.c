@@ -70,8 +70,20 @@ static size_t length(const void *at, size_t n) { return at ? n : 0; }
 
 int FLAG_clear_internal_memory = 1;
 
+/* Clears the registers that a call may change, if the compiler can: vector registers may have a part of a tag. Those that only
+ * AVX-512 has stay as they are. */
+#if __has_attribute(zero_call_used_regs)
+__attribute__((noinline, zero_call_used_regs("all")))
+#endif
+static void clear_registers(void) {
+    __asm__ volatile("");
+}
+
+/* Registers first: the loader can save them on the stack when explicit_bzero is called for the first time. */
 static void wipe(void *at, size_t n) {
-    if (FLAG_clear_internal_memory) explicit_bzero(at, n);
+    if (!FLAG_clear_internal_memory) return;
+    clear_registers();
+    explicit_bzero(at, n);
 }
 
 static void wipe_and_free(uint8_t *at, size_t n) {
