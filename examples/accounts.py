@@ -14,7 +14,7 @@ import argon2
 import bcrypt
 
 LOG = logging.getLogger(__name__)
-HASHER = argon2.PasswordHasher(time_cost=2, memory_cost=19456, parallelism=1)
+HASHER = argon2.PasswordHasher(time_cost=2, memory_cost=19456, parallelism=1, hash_len=32)
 # Verified if a name is unknown or locked, so that this takes as long as a wrong password.
 NOBODY = HASHER.hash(os.urandom(16))
 

@@ -2,7 +2,7 @@
 
 import argon2
 
-HASHER = argon2.PasswordHasher(time_cost=2, memory_cost=19456, parallelism=1)
+HASHER = argon2.PasswordHasher(time_cost=2, memory_cost=19456, parallelism=1, hash_len=32)
 
 
 def accepts(text, password):
