@@ -60,7 +60,11 @@ fn is_of_params(call: &Call<'_, '_>, answer: &Answer) -> bool {
             let (m, t, p) = (call.count(1), call.count(2), call.count(3));
             shown(answer, Params::new(m, t, p, call.number(4)));
         }
-        "Params::default" => shown(answer, Ok(Params::default())),
+        // What they say, and their text.
+        "Params::default" => {
+            shown(answer, Ok(Params::default()));
+            answer.say(Params::default());
+        }
         "ParamsBuilder::new" => shown(answer, ParamsBuilder::new().build()),
         "ParamsBuilder::build" => {
             if let Some((params, _)) = answer.ok(context::settings(call, 1)) {
@@ -369,8 +373,9 @@ fn of_policy(call: &Call<'_, '_>, answer: &Answer) {
     if let Some(policy) = answer.ok(made) {
         match call.name {
             "Policy::new" => answer.say("Ok"),
-            // `.. SECRET GENERATOR PASSWORD TEXT`: a login, for which a text may also be one under the old secret.
-            "Policy::with_old_secret" => {
+            // `.. SECRET GENERATOR PASSWORD TEXT`: a login, for which a text may also be one under the old secret. Without a
+            // text, with `::hash_for_nobody`.
+            name if name.starts_with("Policy::with_old_secret") => {
                 if let Some(policy) = answer.ok(policy.with_old_secret(call.bytes(5))) {
                     on_policy(call, 6, answer, &policy);
                 }
@@ -388,7 +393,7 @@ fn on_policy(call: &Call<'_, '_>, place: usize, answer: &Answer, policy: &Policy
             answer.said(policy.hash_password(&mut rng, password));
             answer.drawn(&rng);
         }
-        "Policy::hash_for_nobody" => {
+        name if name.ends_with("::hash_for_nobody") => {
             policy.hash_for_nobody(password);
             answer.drawn(&rng);
         }

@@ -9,6 +9,8 @@ use argon2::{
     MIN_SALT_LEN, Params, ParamsBuilder, PasswordHash, RECOMMENDED_SALT_LEN, Version,
 };
 use argon2_base::phc::{ARGON2D_IDENT, ARGON2I_IDENT, ARGON2ID_IDENT, Ident};
+use std::convert::AsSlice;
+use std::hash::{DefaultHasher, Hash, Hasher};
 
 pub(crate) fn is_made(call: &Call<'_, '_>, answer: &Answer) -> bool {
     match call.name {
@@ -17,6 +19,7 @@ pub(crate) fn is_made(call: &Call<'_, '_>, answer: &Answer) -> bool {
         "types::defaults" => answer.said(has_defaults()),
         "types::names" => answer.say(orders_names()),
         "types::lists" => answer.said(orders_lists()),
+        "types::bytes" => answer.said(reads_bytes()),
         _ => return false,
     }
     true
@@ -110,4 +113,33 @@ fn orders_lists() -> Result<bool> {
             && PasswordHash::new("$argon2d$v=19")? != hash
             && Salt::new(b"somesalt")?.len() == 8,
     )
+}
+
+// Whether the types of bytes and names are made of a slice or a text, give their bytes, and are hashed as these.
+fn reads_bytes() -> Result<bool> {
+    let bytes: &[u8] = b"somesalt";
+    let (key, data) = (KeyId::try_from(bytes)?, AssociatedData::try_from(bytes)?);
+    let (salt, hash, name) = (
+        Salt::new(bytes)?,
+        Output::new(bytes)?,
+        "argon2i".parse::<Ident>()?,
+    );
+    let are_equal = [
+        key.as_slice() == bytes,
+        data.as_slice() == bytes,
+        salt.as_slice() == bytes,
+        hash.as_slice() == bytes,
+        name == ARGON2I_IDENT,
+        hash_of(&key) == hash_of(&bytes),
+        hash_of(&data) == hash_of(&bytes),
+        hash_of(&name) == hash_of(&"argon2i"),
+        hash_of(&key) != hash_of(&name),
+    ];
+    Ok(are_equal == [true; 9])
+}
+
+fn hash_of<T: Hash>(value: &T) -> u64 {
+    let mut state = DefaultHasher::new();
+    value.hash(&mut state);
+    state.finish()
 }
