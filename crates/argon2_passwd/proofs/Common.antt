@@ -19,7 +19,8 @@ pub use Rattle.argon2_passwd.specs.Answers.{Keeps, Line, line_has_name, Looks, N
 pub use Rattle.argon2_passwd.specs.Answers.{Serves, Stays, Texts}
 pub use Rattle.argon2_passwd.specs.Lines.{IsEntryOrFlaw, IsTaken, parts_now, unmarked}
 pub use Rattle.argon2_passwd.specs.Passwords.{line_of}
-use Rattle.argon2_passwd.specs.Answers.{BoundError, Failure, is_refusal, IsDenied, Phc, status_of}
+pub use Rattle.argon2_passwd.specs.Answers.{Failure, is_denial, status_of}
+use Rattle.argon2_passwd.specs.Answers.{BoundError, is_refusal, IsDenied, Phc}
 
 pub keeps_same : (known : Option (List ℕ)) → Keeps known known
 keeps_same known = grind arith

@@ -1,5 +1,5 @@
 -- What the program answers. The words that the contracts share with it are passed on.
-use Rattle.std.specs.Prelude.{◌≡◌, ◌≢◌, ◌⊎◌, ℕ, ◌||◌, false, Bool, ◌+◌, IsTrue, List, [], ◌∷◌, ◌++◌, Option, Some, None, IfSome, Result, Ok, Err, IfOk, IsErrAnd, is_ok, if◌then◌else◌, IsSomeAnd, take, unwrap_or}
+use Rattle.std.specs.Prelude.{◌≡◌, ◌≢◌, ◌⊎◌, ℕ, ◌||◌, false, Bool, ◌+◌, IsTrue, List, [], ◌∷◌, ◌++◌, Option, Some, None, IfSome, Result, Ok, Err, IfOk, IsErrAnd, if◌then◌else◌, IsSomeAnd, take, unwrap_or}
 use Rattle.std.specs.Io.BufRead.{drop_through}
 pub use Rattle.std.specs.Option.{option_map}
 use Rattle.std.specs.Result.{result_map_both}
@@ -38,7 +38,7 @@ pub use Rattle.argon2_passwd.specs.Passwords.{IsUnread, password_of}
 pub use Rattle.argon2_passwd.specs.Salts.{IsSalt, next_salt}
 use Rattle.argon2_passwd.specs.declared.run.edits.Step.{Step}
 use Rattle.argon2_passwd.specs.declared.run.edits.Step.TheVariants as step
-pub use Rattle.argon2_passwd.specs.Failures.{BoundError, denial_line, Failure, FileError, IsDenialOf, IsOfWrite, LineError, Params, is_refusal, bound_failure, file_failure, lines_failure, status_by, status_of}
+pub use Rattle.argon2_passwd.specs.Failures.{BoundError, denial_line, Failure, FileError, IsDenialOf, IsOfWrite, LineError, Params, is_denial, is_refusal, bound_failure, file_failure, lines_failure, status_by, status_of}
 use Rattle.argon2_passwd.specs.Failures.{File, Line as AtLine, Name, Passed, Refused, Scheme}
 pub use Rattle.argon2_passwd.specs.Lines.{AreSaid, Bor, Flaw, IsOfFirst, Line, Phc, PhcText, entries_in, entry_or_flaw, flaws_from, has_name, has_text, line_has_name, new_line, new_lines, scheme_of}
 use Rattle.argon2_passwd.specs.Lines.{Taken, has_control}
@@ -168,6 +168,11 @@ abbrev pub answer_without_text : Accepted → Accepted
 answer_without_text Rehashed = Kept
 answer_without_text did = did
 
+-- What an accepted login answers whose fresh text was to be written so. It is refused if the name was removed or locked meanwhile.
+abbrev pub login_by : Accepted → Outcome → Result Accepted Failure
+login_by did (Ok _) = Ok did
+login_by did (Err failure) = if is_denial failure then Err failure else Ok (answer_without_text did)
+
 -- the outcome of a call with this answer, of which each error becomes a failure
 abbrev pub outcome_by : {E : Type 0} → (E → Failure) → Result (Unit {0}) E → Outcome
 outcome_by failure done = result_map_both (λ x. x) failure done
@@ -253,7 +258,7 @@ module _ {S : Type 0} (g : Ghosts S) (Has : List ℕ → Texts → Type 0) (Give
       ⊎ ((old drawn : List ℕ) × (v w : Phc) × (did : Accepted) × IsSalt Gives drawn × SaysHash old v
       × LogsIn policy password drawn v (Ok did) w × IsLooked g Has path name (Ok (Some old))
       (λ read. ((result ≡ Ok (answer_without_text did)) × Closed (read ∷ []))
-      ⊎ ((done : Outcome) × (result ≡ Ok (if is_ok done then did else answer_without_text did))
+      ⊎ ((done : Outcome) × (result ≡ login_by did done)
       × IsApplied g Has path (replacing name old (phc_text w)) (λ more. Closed (read ∷ more)) done)))
 
   -- A change of this kind was all that was done with the file at a path, by the passwords of the input and with this

@@ -1,5 +1,5 @@
 -- Why the program fails.
-use Rattle.std.specs.Prelude.{◌≡◌, ◌⊎◌, ℕ, List, codes, if◌then◌else◌, Result, Ok, Err}
+use Rattle.std.specs.Prelude.{◌≡◌, ℕ, true, false, Bool, IsTrue, List, codes, if◌then◌else◌, Result, Ok, Err}
 use Rattle.std.specs.IoError.{error_kind}
 use Rattle.std.specs.declared.io.Error.{Error as IoError}
 use Rattle.std.specs.declared.io.ErrorKind.{ErrorKind}
@@ -58,9 +58,10 @@ abbrev pub bound_failure : BoundError → Failure
 bound_failure (bound.Refused OutOfMemory) = Memory
 bound_failure error = Refused error
 
--- the failure by a call on a file
+-- the failure by a call on a file: a name that is locked is refused as a wrong password is
 abbrev pub file_failure : FileError → Failure
 file_failure file.OutOfMemory = Memory
+file_failure file.Locked = Refused (bound.Refused PasswordInvalid)
 file_failure error = File error
 
 -- the failure by lines that are not all written
@@ -77,13 +78,15 @@ open_failure error = Unopened error
 -- ---- refusals that do not tell whether the name is there
 
 -- the name is unknown, or its text refuses the password or is locked
-abbrev pub IsDenial : Failure → Type 0
-IsDenial failure = (failure ≡ File file.NameUnknown) ⊎ (failure ≡ Refused (bound.Refused PasswordInvalid))
+abbrev pub is_denial : Failure → Bool
+is_denial (File file.NameUnknown) = true
+is_denial (Refused (bound.Refused PasswordInvalid)) = true
+is_denial _ = false
 
 -- they refuse a login, or a change of a password
 abbrev pub IsDenialOf : Action → Failure → Type 0
-IsDenialOf (OnFile path (Verify name)) failure = IsDenial failure
-IsDenialOf (OnFile path (Edits Change name)) failure = IsDenial failure
+IsDenialOf (OnFile path (Verify name)) failure = IsTrue (is_denial failure)
+IsDenialOf (OnFile path (Edits Change name)) failure = IsTrue (is_denial failure)
 IsDenialOf _ failure = ⊥
 
 -- the line that stands for each of them

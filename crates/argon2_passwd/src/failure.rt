@@ -92,7 +92,7 @@ pub enum Failure {
 
 impl Failure {
     ghost use Rattle.std.specs.Prelude.{◌≡◌, ◌≤◌};
-    ghost use Rattle.argon2_passwd.specs.Failures.{status_of};
+    ghost use Rattle.argon2_passwd.specs.Failures.{is_denial, status_of};
 
     /// The exit status: 1 if a password, a name or a line is refused, 2 if the parameters are, 4 if a text can't be
     /// verified by any password or lines were passed over, and 3 if a file, a stream or a request for memory fails.
@@ -108,6 +108,17 @@ impl Failure {
             Failure::File(error) if error.is_refusal() => 1,
             _ => 3,
         }
+    }
+
+    /// Whether a name is unknown, or its text refuses the password or is locked.
+    pub fn is_denial(&self) -> bool
+        ensures { result ≡ is_denial self.now }
+    {
+        matches!(
+            self,
+            Failure::File(FileError::NameUnknown)
+                | Failure::Refused(BoundError::Refused(password_hash::Error::PasswordInvalid))
+        )
     }
 }
 
@@ -175,13 +186,16 @@ impl From<password_hash::Error> for Failure {
     }
 }
 
-/// The failure of a call on a file.
+/// The failure of a call on a file. A name that is locked is refused as a wrong password is.
 impl From<FileError> for Failure {
     ghost from_gives = { λ error failure. failure ≡ file_failure error };
 
     fn from(error: FileError) -> Failure {
         match error {
             FileError::OutOfMemory => Failure::Memory,
+            FileError::Locked => Failure::Refused(BoundError::Refused(
+                password_hash::Error::PasswordInvalid,
+            )),
             error => Failure::File(error),
         }
     }

@@ -9,12 +9,9 @@ use crate::failure::{Failure, Flaw};
 use crate::options::Options;
 use crate::outside::{News, Outside};
 use crate::passwords::password;
-use argon2::bound::BoundError;
-use argon2::password_hash::Error;
 use argon2::{Algorithm, Argon2, PasswordHash, Version};
 use argon2_policy::Policy;
 use argon2_programs::write_line;
-use argon2_store::FileError;
 use rand_chacha::ChaCha20Rng;
 use rand_core::SeedableRng;
 use std::alloc::{AllocError, Global};
@@ -130,12 +127,7 @@ fn is_hidden(command: &Command<'_>, failure: &Failure) -> bool
         command.action,
         Action::OnFile(_, Task::Verify(_) | Task::Edit(Edit::Change, _))
     );
-    let is_denied = matches!(
-        failure,
-        Failure::File(FileError::NameUnknown)
-            | Failure::Refused(BoundError::Refused(Error::PasswordInvalid))
-    );
-    logs_in && is_denied && !command.options.explain
+    logs_in && failure.is_denial() && !command.options.explain
 }
 
 // What a failure is of: the path of a file that fails, or the name or the word of a text that no password opens.

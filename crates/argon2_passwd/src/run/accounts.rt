@@ -176,10 +176,12 @@ fn log_in<P: Outside, G: Rng>(
     let Some(fresh) = fresh else {
         return Ok(accepted);
     };
-    // The password is accepted, whether the fresh text can be written or not.
     let step = Step::Replace(text.as_str(), fresh);
     match call(outside, access, name, &step) {
         Ok(()) => Ok(accepted),
+        // The name was removed or locked meanwhile.
+        Err(failure) if failure.is_denial() => Err(failure),
+        // The password is accepted, though the fresh text can't be written.
         Err(_) => Ok(Accepted::Kept),
     }
 }
