@@ -7,7 +7,7 @@ pub use Rattle.std.specs.Io.BufRead.{drop_through, DropsThrough, strip_last}
 pub use Rattle.std.specs.Io.KnownBytes.{WriteAppends}
 pub use Rattle.std.specs.List.{after_first, AllZip, before_first, IsFirstMatchOrLen, slice_get, slice_split}
 pub use Rattle.std.specs.Option.{is_some, option_copied, unwrap_or}
-pub use Rattle.std.specs.Prelude.{All, IfOk, IfSome, String, string_bytes}
+pub use Rattle.std.specs.Prelude.{All, IfOk, IfSome, String, string_bytes, ◌≢◌}
 pub use Rattle.std.specs.Str.{is_utf8}
 pub use Rattle.std.specs.Str.Lines.{lines, lines_of_parts, strip_carriage_return}
 pub use Rattle.argon2_rows.proofs.TableLemmas.{err_is, quiet_then}
@@ -18,7 +18,7 @@ pub use Rattle.argon2_passwd.specs.Answers.{FileError, Flaw, flaws_from, get, Gh
 pub use Rattle.argon2_passwd.specs.Answers.{Keeps, Line, line_has_name, Looks, NameTaken, new_line, new_lines, next_salt, file_failure, OfPassword, option_map, password_of, phc_of, scheme_of}
 pub use Rattle.argon2_passwd.specs.Answers.{Serves, Stays, Texts}
 pub use Rattle.argon2_passwd.specs.Lines.{IsEntryOrFlaw, IsTaken, parts_now, unmarked}
-pub use Rattle.argon2_passwd.specs.Passwords.{line_of}
+pub use Rattle.argon2_passwd.specs.Passwords.{IsNotNew, IsUnread, line_of}
 pub use Rattle.argon2_passwd.specs.Answers.{Failure, is_denial, status_of}
 use Rattle.argon2_passwd.specs.Answers.{BoundError, is_refusal, IsDenied, Phc}
 

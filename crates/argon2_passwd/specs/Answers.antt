@@ -34,7 +34,7 @@ use Rattle.argon2_passwd.specs.declared.command.Task.TheVariants.{Verify, Edit a
 use Rattle.argon2_passwd.specs.declared.options.Options.{Options}
 use Rattle.argon2_passwd.specs.declared.command.Edit.{Edit}
 use Rattle.argon2_passwd.specs.declared.command.Edit.TheVariants.{Register, Change, Set, Remove, Lock, Unlock}
-pub use Rattle.argon2_passwd.specs.Passwords.{IsUnread, password_of}
+pub use Rattle.argon2_passwd.specs.Passwords.{IsNotNew, IsUnread, password_of}
 pub use Rattle.argon2_passwd.specs.Salts.{IsSalt, next_salt}
 use Rattle.argon2_passwd.specs.declared.run.edits.Step.{Step}
 use Rattle.argon2_passwd.specs.declared.run.edits.Step.TheVariants as step
@@ -58,9 +58,9 @@ abbrev pub OfPassword : (List ℕ → Type 0) → Known → Type 0
 OfPassword P input =
     (password : List ℕ) × IfSome input (λ bytes. password_of bytes ≡ Some password) × P password
 
--- a fresh text of the password, with a salt that the system gives
+-- a fresh text of the password, which is not empty, with a salt that the system gives
 abbrev pub IsNewText : (List ℕ → Type 0) → Policy → Known → Phc → Type 0
-IsNewText Gives policy input v = OfPassword (λ password. (drawn : List ℕ)
+IsNewText Gives policy input v = OfPassword (λ password. (password ≢ []) × (drawn : List ℕ)
     × IsSalt Gives drawn × IsFresh policy.target password drawn v) input
 
 -- what a login did with a text, and a line with the fresh one if there is one
@@ -193,15 +193,15 @@ Ends Made untouched result = Made result ⊎ (untouched × IsErrAnd result (λ f
 
 -- the words or the input are refused with this failure before a file is opened
 abbrev pub IsUnfit : Policy → Action → Known → Failure → Type 0
-IsUnfit policy Hash input failure = IsUnread input failure
+IsUnfit policy Hash input failure = IsNotNew input failure
 IsUnfit policy (Check text) input failure = IsUnread input failure
     ⊎ OfPassword (λ password. IsDenied (Denial policy password) (Some text.now) failure) input
 IsUnfit policy (OnFile path (Verify name)) input failure = IsUnread input failure
 IsUnfit policy (OnFile path (Edits Register name)) input failure =
-    (IsTrue (breaks_lines name.now) × (failure ≡ Name)) ⊎ ((breaks_lines name.now ≡ false) × IsUnread input failure)
+    (IsTrue (breaks_lines name.now) × (failure ≡ Name)) ⊎ ((breaks_lines name.now ≡ false) × IsNotNew input failure)
 IsUnfit policy (OnFile path (Edits Change name)) input failure =
-    IsUnread input failure ⊎ OfPassword (λ first. IsUnread (behind input) failure) input
-IsUnfit policy (OnFile path (Edits Set name)) input failure = IsUnread input failure
+    IsUnread input failure ⊎ OfPassword (λ first. IsNotNew (behind input) failure) input
+IsUnfit policy (OnFile path (Edits Set name)) input failure = IsNotNew input failure
 IsUnfit policy (OnFile path (Import any_text)) input failure =
     OfLines any_text input (λ said. IsOfFirst (flaws_from 1 said) failure)
 IsUnfit policy _ input failure = ⊥
@@ -266,12 +266,12 @@ module _ {S : Type 0} (g : Ghosts S) (Has : List ℕ → Texts → Type 0) (Give
   abbrev pub IsChange : Policy → List ℕ → Edit → List ℕ → Known → (List S → Type 0) → Outcome → Type 0
   IsChange policy path Register name input Closed result = (breaks_lines name ≡ false)
       × (v : Phc) × IsNewText Gives policy input v × IsApplied g Has path (adding name (phc_text v)) Closed result
-  IsChange policy path Change name input Closed result = OfPassword (λ first. OfPassword (λ second.
+  IsChange policy path Change name input Closed result = OfPassword (λ first. OfPassword (λ second. (second ≢ []) × (
       IsErrAnd result (IsUnfound g Has (ChangeRefusal policy first second) path name Closed)
       ⊎ ((old drawn : List ℕ) × (v w : Phc) × IsSalt Gives drawn × SaysHash old v × Admits policy first v
       × IsFresh policy.target second drawn w × IsLooked g Has path name (Ok (Some old))
       (λ read. Ends (IsApplied g Has path (replacing name old (phc_text w)) (λ more. Closed (read ∷ more)))
-      (Closed (read ∷ [])) result))) (behind input)) input
+      (Closed (read ∷ [])) result)))) (behind input)) input
   IsChange policy path Set name input Closed result =
       (v : Phc) × IsNewText Gives policy input v × IsApplied g Has path (setting name (phc_text v)) Closed result
   IsChange policy path Remove name input Closed result = IsApplied g Has path (removing name) Closed result

@@ -12,7 +12,7 @@ use Rattle.argon2_passwd.specs.declared.command.Action.TheVariants.{OnFile}
 use Rattle.argon2_passwd.specs.declared.command.Edit.TheVariants.{Change}
 use Rattle.argon2_passwd.specs.declared.command.Task.TheVariants.{Verify, Edit as Edits}
 pub use Rattle.argon2_passwd.specs.declared.failure.Failure.{Failure}
-pub use Rattle.argon2_passwd.specs.declared.failure.Failure.TheVariants.{NoPassword, LongPassword, Name, Params, Refused, Scheme, Line, Passed, Unopened, File, BrokenLine, Output, Unread, Memory}
+pub use Rattle.argon2_passwd.specs.declared.failure.Failure.TheVariants.{NoPassword, LongPassword, EmptyPassword, Name, Params, Refused, Scheme, Line, Passed, Unopened, File, BrokenLine, Output, Unread, Memory}
 pub use Rattle.argon2_store.specs.Errors.{is_refusal}
 pub use Rattle.argon2_store.specs.declared.error.FileError.{FileError}
 use Rattle.argon2_store.specs.declared.error.FileError.TheVariants as file
@@ -26,6 +26,7 @@ use Rattle.argon2_store.specs.declared.error.OpenError.TheVariants as no
 abbrev pub status_of : Failure → ℕ
 status_of NoPassword = 1
 status_of LongPassword = 1
+status_of EmptyPassword = 1
 status_of Name = 1
 status_of Params = 2
 status_of (Refused (bound.Refused PasswordInvalid)) = 1

@@ -1,9 +1,9 @@
 -- Passwords, each a line.
-use Rattle.std.specs.Prelude.{◌≡◌, ◌≢◌, ℕ, nat_le, List, [], ◌∷◌, length, if◌then◌else◌, Option, Some, None, IfSome}
+use Rattle.std.specs.Prelude.{◌≡◌, ◌≢◌, ◌⊎◌, ℕ, nat_le, List, [], ◌∷◌, length, if◌then◌else◌, Option, Some, None, IfSome}
 use Rattle.std.specs.Io.BufRead.{ends_with_byte, strip_last, take_through}
 use Rattle.argon2_passwd.specs.Failures.{status_of}
 use Rattle.argon2_passwd.specs.declared.failure.Failure.{Failure}
-use Rattle.argon2_passwd.specs.declared.failure.Failure.TheVariants.{NoPassword, LongPassword}
+use Rattle.argon2_passwd.specs.declared.failure.Failure.TheVariants.{NoPassword, LongPassword, EmptyPassword}
 
 -- a line without its LF or CR LF
 abbrev pub line_of : List ℕ → List ℕ
@@ -22,3 +22,8 @@ abbrev pub IsUnread : Option (List ℕ) → Failure → Type 0
 IsUnread input NoPassword = IfSome input (λ bytes. bytes ≡ [])
 IsUnread input LongPassword = IfSome input (λ bytes. (password_of bytes ≡ None) × (bytes ≢ []))
 IsUnread input failure = status_of failure ≡ 3
+
+-- the same of a new password, which is not empty
+abbrev pub IsNotNew : Option (List ℕ) → Failure → Type 0
+IsNotNew input failure = IsUnread input failure
+    ⊎ ((failure ≡ EmptyPassword) × IfSome input (λ bytes. password_of bytes ≡ Some []))

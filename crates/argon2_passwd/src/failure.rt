@@ -36,6 +36,9 @@ pub enum Failure {
     /// A line for a password is longer than it may be.
     #[error("a password has at most 4096 bytes")]
     LongPassword,
+    /// A line for a new password is empty.
+    #[error("a new password has 1 to 4096 bytes")]
+    EmptyPassword,
     /// A new name has a colon or a control character.
     #[error("a name has no colon and no control character")]
     Name,
@@ -101,7 +104,11 @@ impl Failure {
         ensures some { (1 ≤ result) × (result ≤ 4) }
     {
         match self {
-            Failure::NoPassword | Failure::LongPassword | Failure::Name | Failure::Line(_, _) => 1,
+            Failure::NoPassword
+            | Failure::LongPassword
+            | Failure::EmptyPassword
+            | Failure::Name
+            | Failure::Line(_, _) => 1,
             Failure::Params => 2,
             Failure::Refused(BoundError::Refused(password_hash::Error::PasswordInvalid)) => 1,
             Failure::Refused(_) | Failure::Scheme(_) | Failure::Passed(_) => 4,

@@ -1,8 +1,8 @@
 //! The password, a line of standard input.
 
-ghost use Rattle.std.specs.Prelude.{◌≡◌, Some, IfErr, IfOk, IfSome, OnOk, length, take};
+ghost use Rattle.std.specs.Prelude.{◌≡◌, ◌≢◌, [], Some, IfErr, IfOk, IfSome, OnOk, length, take};
 ghost use Rattle.std.specs.Io.BufRead.{DropsThrough};
-ghost use Rattle.argon2_passwd.specs.Passwords.{IsUnread, line_of, password_of};
+ghost use Rattle.argon2_passwd.specs.Passwords.{IsNotNew, IsUnread, line_of, password_of};
 
 use crate::failure::{Failure, of_reading};
 use std::alloc::Global;
@@ -30,6 +30,20 @@ pub fn password<R: BufRead>(alloc: Global, input: &mut R) -> Result<Vec<u8>, Fai
     }
     line.truncate(len);
     Ok(line)
+}
+
+/// The same as a new password, which is not empty.
+pub fn new_password<R: BufRead>(alloc: Global, input: &mut R) -> Result<Vec<u8>, Failure>
+    ensures found { IfOk result (λ password. IfSome (R.remaining input.old)
+        (λ bytes. password_of bytes ≡ Some password.items)) }
+    ensures some { IfOk result (λ password. password.items ≢ []) }
+    ensures refused { IfErr result (IsNotNew (R.remaining input.old)) }
+{
+    let password = password(alloc, input)?;
+    if password.is_empty() {
+        return Err(Failure::EmptyPassword);
+    }
+    Ok(password)
 }
 
 /// How many bytes a line has before its LF or CR LF.

@@ -2,13 +2,13 @@
 #![tactic(auto, using(crate::proofs::Common::keeps_same))]
 
 ghost use Rattle.std.specs.Prelude.{◌≡◌, ◌≤◌, ◌⊎◌, ◌++◌, ◌∷◌, [], ℕ, vec_items, IfErr, IfOk, IsTrue, false, string_bytes, take};
-ghost use Rattle.argon2_passwd.specs.Answers.{Appends, AppendsFront, IsAnswered, IsDenialOf, IsEnded, IsNewText, IsPolicy, IsSalt, IsSecret, IsTold, IsUnread, Outcome, Params, Says, denial_line, news_of, news_text, next_salt, option_map, phc_of, policy_by, policy_value, status_by, status_of};
+ghost use Rattle.argon2_passwd.specs.Answers.{Appends, AppendsFront, IsAnswered, IsDenialOf, IsEnded, IsNewText, IsPolicy, IsSalt, IsSecret, IsTold, IsNotNew, Outcome, Params, Says, denial_line, news_of, news_text, next_salt, option_map, phc_of, policy_by, policy_value, status_by, status_of};
 
 use crate::command::{Action, Command, Edit, Task};
 use crate::failure::{Failure, Flaw};
 use crate::options::Options;
 use crate::outside::{News, Outside};
-use crate::passwords::password;
+use crate::passwords::{new_password, password};
 use argon2::{Algorithm, Argon2, PasswordHash, Version};
 use argon2_policy::Policy;
 use argon2_programs::write_line;
@@ -195,10 +195,10 @@ fn new_text<P: Outside, R: BufRead>(
 ) -> Result<PasswordHash, Failure>
     ensures ok { IfOk result (λ text.
         IsNewText P.gives (policy_value policy.now) (R.remaining input.old) (phc_of text)) }
-    ensures err { IfErr result (IsUnread (R.remaining input.old)) }
+    ensures err { IfErr result (IsNotNew (R.remaining input.old)) }
 {
     let mut rng = generator(outside)?;
-    let password = password(alloc, input)?;
+    let password = new_password(alloc, input)?;
     texts::fresh(policy, &mut rng, password.as_slice())
 }
 

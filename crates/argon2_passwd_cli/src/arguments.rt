@@ -29,7 +29,7 @@ Makes a PHC text of a password by Argon2id, checks a password by such a text, an
 texts in a file.
 
 The password is the first line of standard input. The line's end, LF or CR LF, is no part of it. It has at
-most 4096 bytes.
+most 4096 bytes, and a new one at least one.
 
   hash                write a text of the password, with a salt of 16 bytes from the system
   check TEXT          accept or refuse the password; if it is accepted, write \"text is current\" if TEXT was
@@ -56,10 +56,10 @@ const NOTES: &str = "\
 Example: argon2-passwd register accounts.db ann
 
 The status is 0 if a text is written, the password is accepted or the command on FILE is done. It is 1 if the
-password is wrong, too long or missing, the name is taken, unknown or not allowed, or a line is refused; 2 if
-the arguments are wrong or the parameters are above the bound; 3 if a file, a stream, random bytes or a request
-for memory fails; and 4 if no password opens a text, since it is outside the grammar, of another scheme or above
-the bound, or if --skip passed over a line. If it is not 0, standard error says why.";
+password is wrong, too long or missing, a new one is empty, the name is taken, unknown or not allowed, or a
+line is refused; 2 if the arguments are wrong or the parameters are above the bound; 3 if a file, a stream,
+random bytes or a request for memory fails; and 4 if no password opens a text, since it is outside the grammar,
+of another scheme or above the bound, or if --skip passed over a line. If it is not 0, standard error says why.";
 
 /// Reads the command with its options, of which the last counts if one is given twice.
 ///

@@ -9,7 +9,7 @@ use crate::command::{Action, Edit, Task};
 use crate::entries::has_control;
 use crate::failure::Failure;
 use crate::outside::Outside;
-use crate::passwords::password;
+use crate::passwords::{new_password, password};
 use argon2::PasswordHash;
 use argon2_store::{AccountFile, FileError, View};
 use sqlite_trees::store::Store;
@@ -113,7 +113,7 @@ fn change<P: Outside, R: BufRead>(
 {
     let mut rng = generator(outside)?;
     let first = password(alloc, input)?;
-    let second = password(alloc, input)?;
+    let second = new_password(alloc, input)?;
     let (first, second) = (first.as_slice(), second.as_slice());
     let (text, hash) = look(outside, access, name, first)?;
     let fresh = access
