@@ -1,5 +1,5 @@
 -- What the program answers. The words that the contracts share with it are passed on.
-use Rattle.std.specs.Prelude.{◌≡◌, ◌≢◌, ◌⊎◌, ℕ, ◌||◌, false, Bool, ◌+◌, IsTrue, List, [], ◌∷◌, ◌++◌, Option, Some, None, IfSome, Result, Ok, Err, IfOk, IsErrAnd, if◌then◌else◌, IsSomeAnd, take, unwrap_or}
+use Rattle.std.specs.Prelude.{◌≡◌, ◌≢◌, ◌⊎◌, ℕ, false, Bool, ◌+◌, IsTrue, List, [], ◌∷◌, ◌++◌, Option, Some, None, IfSome, Result, Ok, Err, IfOk, IsErrAnd, if◌then◌else◌, IsSomeAnd, take, unwrap_or}
 use Rattle.std.specs.Io.BufRead.{drop_through}
 pub use Rattle.std.specs.Option.{option_map}
 use Rattle.std.specs.Result.{result_map_both}
@@ -18,9 +18,7 @@ pub use Rattle.argon2_policy.specs.Policy.{Admits, ChangeRefusal, Denial, IsPoli
 pub use Rattle.argon2_programs.specs.Lines.{AppendsFront}
 pub use Rattle.argon2_rows.specs.Locks.{is_locked}
 pub use Rattle.argon2_rows.specs.Names.{IsFirstTaken, Texts, entry_of, get}
-use Rattle.argon2_rows.specs.Rows.{breaks_line}
 pub use Rattle.argon2_rows.specs.Table.{IsHonest}
-use Rattle.argon2_rows.specs.declared.view.View.TheVariants as views
 pub use Rattle.argon2_store.specs.AccountFile.{HasNames, IsReady, NamesStay, Serves, Stays, WritesLines, error_of, database_of}
 use Rattle.argon2_store.specs.Edits.{Edit as FileEdit, adding, locking, removing, replacing, setting, text_of, unlocking}
 pub use Rattle.argon2_store.specs.Edits.{additions}
@@ -41,7 +39,7 @@ use Rattle.argon2_passwd.specs.declared.run.edits.Step.TheVariants as step
 pub use Rattle.argon2_passwd.specs.Failures.{BoundError, denial_line, Failure, FileError, IsDenialOf, IsOfWrite, LineError, Params, is_denial, is_refusal, bound_failure, file_failure, lines_failure, status_by, status_of}
 use Rattle.argon2_passwd.specs.Failures.{File, Line as AtLine, Name, Passed, Refused, Scheme}
 pub use Rattle.argon2_passwd.specs.Lines.{AreSaid, Bor, Flaw, IsOfFirst, Line, Phc, PhcText, entries_in, entry_or_flaw, flaws_from, has_name, has_text, line_has_name, new_line, new_lines, scheme_of}
-use Rattle.argon2_passwd.specs.Lines.{Taken, has_control}
+use Rattle.argon2_passwd.specs.Lines.{Taken, name_flaw}
 use Rattle.argon2_passwd.specs.declared.outside.News.{News}
 pub use Rattle.argon2_passwd.specs.News.{news_of, news_text}
 
@@ -97,10 +95,6 @@ IsSecret Holds (Some path) secret = IsSomeAnd secret (Holds path.now)
 -- what an input has behind its first line
 abbrev pub behind : Known → Known
 behind input = option_map (drop_through 10) input
-
--- the name of a new text would break its line in an export, or has a control character
-abbrev pub breaks_lines : List ℕ → Bool
-breaks_lines name = breaks_line views.Texts name || has_control name
 
 -- what a step does to the text of a name
 abbrev pub edit_of : Step → List ℕ → FileEdit
@@ -198,7 +192,7 @@ IsUnfit policy (Check text) input failure = IsUnread input failure
     ⊎ OfPassword (λ password. IsDenied (Denial policy password) (Some text.now) failure) input
 IsUnfit policy (OnFile path (Verify name)) input failure = IsUnread input failure
 IsUnfit policy (OnFile path (Edits Register name)) input failure =
-    (IsTrue (breaks_lines name.now) × (failure ≡ Name)) ⊎ ((breaks_lines name.now ≡ false) × IsNotNew input failure)
+    IsSomeAnd (name_flaw name.now) (λ why. failure ≡ Name why) ⊎ ((name_flaw name.now ≡ None) × IsNotNew input failure)
 IsUnfit policy (OnFile path (Edits Change name)) input failure =
     IsUnread input failure ⊎ OfPassword (λ first. IsNotNew (behind input) failure) input
 IsUnfit policy (OnFile path (Edits Set name)) input failure = IsNotNew input failure
@@ -264,7 +258,7 @@ module _ {S : Type 0} (g : Ghosts S) (Has : List ℕ → Texts → Type 0) (Give
   -- A change of this kind was all that was done with the file at a path, by the passwords of the input and with this
   -- result. That the file can't be opened again is no refusal.
   abbrev pub IsChange : Policy → List ℕ → Edit → List ℕ → Known → (List S → Type 0) → Outcome → Type 0
-  IsChange policy path Register name input Closed result = (breaks_lines name ≡ false)
+  IsChange policy path Register name input Closed result = (name_flaw name ≡ None)
       × (v : Phc) × IsNewText Gives policy input v × IsApplied g Has path (adding name (phc_text v)) Closed result
   IsChange policy path Change name input Closed result = OfPassword (λ first. OfPassword (λ second. (second ≢ []) × (
       IsErrAnd result (IsUnfound g Has (ChangeRefusal policy first second) path name Closed)

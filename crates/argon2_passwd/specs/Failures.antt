@@ -27,7 +27,7 @@ abbrev pub status_of : Failure → ℕ
 status_of NoPassword = 1
 status_of LongPassword = 1
 status_of EmptyPassword = 1
-status_of Name = 1
+status_of (Name why) = 1
 status_of Params = 2
 status_of (Refused (bound.Refused PasswordInvalid)) = 1
 status_of (Refused error) = 4

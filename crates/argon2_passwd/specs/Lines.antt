@@ -1,5 +1,5 @@
 -- The lines of an import: names with texts.
-use Rattle.std.specs.Prelude.{◌≡◌, ◌⊎◌, ◌||◌, ℕ, suc, ◌==◌, true, false, Bool, IsOk, IsTrue, List, [], ◌∷◌, if◌then◌else◌, Result, Ok, Err}
+use Rattle.std.specs.Prelude.{◌≡◌, ◌⊎◌, ◌||◌, ℕ, suc, ◌==◌, ◌<◌, ◌≤◌, nat_lt, true, false, Bool, IsOk, IsTrue, List, [], ◌∷◌, length, if◌then◌else◌, Option, Some, None, Result, Ok, Err}
 pub use Rattle.std.specs.Borrow.{Bor}
 use Rattle.std.specs.List.{AllZip, after_first, before_first, list_any}
 use Rattle.std.specs.Option.{is_some}
@@ -12,14 +12,16 @@ use Rattle.std.specs.Str.Lines.{lines}
 use Rattle.std.specs.FinMap.{get}
 pub use Rattle.argon2_base.specs.PhcText.{Phc, PhcText}
 use Rattle.argon2.specs.StoredTexts.{shown_settings}
-use Rattle.argon2_programs.specs.Prefixes.{after_any, without_prefix}
+use Rattle.argon2_programs.specs.Prefixes.{after_any, begins_any, without_prefix}
 pub use Rattle.argon2_programs.specs.Schemes.{scheme_of}
 use Rattle.argon2_rows.specs.Locks.{IsLine, IsStored, without_lock}
 use Rattle.argon2_rows.specs.Names.{Texts, entry_of}
+use Rattle.argon2_rows.specs.Rows.{breaks_line}
+use Rattle.argon2_rows.specs.declared.view.View.TheVariants as views
 pub use Rattle.argon2_rows.specs.declared.text.StoredText.{StoredText}
 use Rattle.argon2_passwd.specs.declared.failure.Failure.{Failure}
 pub use Rattle.argon2_passwd.specs.declared.failure.Flaw.{Flaw}
-pub use Rattle.argon2_passwd.specs.declared.failure.Flaw.TheVariants.{Control, NoText, Taken}
+pub use Rattle.argon2_passwd.specs.declared.failure.Flaw.TheVariants.{TextLength, NoText, NameLength, Character, Mark, Taken}
 use Rattle.argon2_passwd.specs.declared.failure.Failure.TheVariants.{Line as AtLine}
 
 abbrev pub parts_now : Bor (List ℕ) × Bor (List ℕ) → List ℕ × List ℕ
@@ -46,10 +48,20 @@ IsTaken true text = IsStored text ⊎ IsTrue (has_scheme text)
 abbrev pub has_control : List ℕ → Bool
 has_control name = list_any is_control (chars name)
 
+-- a byte order mark
+abbrev pub mark : List ℕ
+mark = 239 ∷ 187 ∷ 191 ∷ []
+
+-- why a name may not be added
+abbrev pub name_flaw : List ℕ → Option Flaw
+name_flaw name = if (length name == 0) || nat_lt 4096 (length name) then Some NameLength
+    else if breaks_line views.Texts name || has_control name then Some Character
+    else if begins_any (mark ∷ []) name then Some Mark else None
+
 -- the name of a line, and its text without what other programs put before it, if these may be added
 abbrev pub IsEntry : Bool → List ℕ → List ℕ × List ℕ → Type 0
 IsEntry any_text line e = (e.0 ≡ (parts_of line).0) × (e.1 ≡ without_prefix (parts_of line).1)
-    × IsTaken any_text e.1 × (has_control e.0 ≡ false)
+    × (length e.1 ≤ 4096) × IsTaken any_text e.1 × (name_flaw e.0 ≡ None)
 
 -- one line with the text of another scheme
 abbrev pub IsForeign : List ℕ → Type 0
@@ -63,7 +75,7 @@ IsNotTaken true text = ¬ (IsStored text) × ¬ (IsForeign text)
 
 -- what lines say behind a byte order mark
 abbrev pub unmarked : List ℕ → List ℕ
-unmarked input = after_any ((239 ∷ 187 ∷ 191 ∷ []) ∷ []) input
+unmarked input = after_any (mark ∷ []) input
 
 -- what a line says: a name and a text that may be added, or why it has none
 abbrev pub Line : Type 0
@@ -73,12 +85,15 @@ abbrev pub entry_or_flaw : Result (Bor (List ℕ) × StoredText) Flaw → Line
 entry_or_flaw (Ok e) = Ok (entry_of e)
 entry_or_flaw (Err why) = Err why
 
+-- why the text of a line may not be added, and then why its name may not
+abbrev pub IsFlaw : Bool → List ℕ → List ℕ → Flaw → Type 0
+IsFlaw any_text name text TextLength = 4096 < length text
+IsFlaw any_text name text NoText = (length text ≤ 4096) × IsNotTaken any_text text
+IsFlaw any_text name text why = (length text ≤ 4096) × IsTaken any_text text × (name_flaw name ≡ Some why)
+
 abbrev pub IsEntryOrFlaw : Bool → List ℕ → Line → Type 0
 IsEntryOrFlaw any_text line (Ok e) = IsEntry any_text line e
-IsEntryOrFlaw any_text line (Err NoText) = IsNotTaken any_text (without_prefix (parts_of line).1)
-IsEntryOrFlaw any_text line (Err Control) =
-    IsTaken any_text (without_prefix (parts_of line).1) × IsTrue (has_control (parts_of line).0)
-IsEntryOrFlaw any_text line (Err Taken) = ⊥
+IsEntryOrFlaw any_text line (Err why) = IsFlaw any_text (parts_of line).0 (without_prefix (parts_of line).1) why
 
 -- what the lines of an input say
 abbrev pub AreSaid : Bool → List ℕ → List Line → Type 0

@@ -1,17 +1,22 @@
 //! A name with its text, a line of standard input.
 
 ghost use Rattle.std.specs.Prelude.{◌≡◌, IfErr, IfOk, IfSome, MatchOption};
-ghost use Rattle.argon2_passwd.specs.Lines.{IsNotTaken, IsTaken, has_control, has_scheme, parts_now, parts_of};
+ghost use Rattle.argon2_passwd.specs.Lines.{IsNotTaken, IsTaken, has_control, has_scheme, name_flaw, parts_now, parts_of};
 ghost use Rattle.argon2_passwd.specs.Failures.{status_of};
 
-use crate::failure::{Failure, of_reading};
+use crate::failure::{Failure, Flaw, of_reading};
 use argon2::password_hash::Settings;
-use argon2_programs::scheme_of;
+use argon2_programs::{begins_any, scheme_of};
 use argon2_rows::StoredText;
+pub use argon2_rows::table::LONGEST;
 use argon2_rows::text::behind_lock;
+use argon2_store::View;
 use std::alloc::Global;
 use std::io::BufRead;
 use std::str;
+
+/// What some programs put before the first line.
+pub const BYTE_ORDER_MARK: &str = "\u{feff}";
 
 /// All bytes of the input.
 pub fn read_all<R: BufRead>(alloc: Global, input: &mut R) -> Result<Vec<u8>, Failure>
@@ -45,8 +50,23 @@ fn has_scheme(text: &str) -> bool
     scheme_of(behind_lock(text).unwrap_or(text).as_bytes()).is_some()
 }
 
-/// Whether a name has a control character, which a terminal would act on.
-pub fn has_control(name: &str) -> bool
+/// Why a name may not be added, if it may not.
+pub fn name_flaw(name: &str) -> Option<Flaw>
+    ensures { result ≡ name_flaw name.now }
+{
+    if name.is_empty() || name.len() > LONGEST {
+        Some(Flaw::NameLength)
+    } else if View::Texts.breaks_line(name.as_bytes()) || has_control(name) {
+        Some(Flaw::Character)
+    } else if begins_any(name.as_bytes(), &[BYTE_ORDER_MARK]) {
+        Some(Flaw::Mark)
+    } else {
+        None
+    }
+}
+
+// Whether a name has a control character, which a terminal would act on.
+fn has_control(name: &str) -> bool
     ensures { result ≡ has_control name.now }
 {
     name.chars().any(|c| c.is_control())

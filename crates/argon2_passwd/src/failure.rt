@@ -13,16 +13,25 @@ use std::io;
 use std::io::ErrorKind;
 use thiserror::Error;
 
-/// Why a line of an import may not be added.
+/// Why a line of an import or a name may not be added.
 #[derive(Clone, Copy, Debug, Error)]
 pub enum Flaw {
-    /// It has no text that may be added.
+    /// The line's text is too long.
+    #[error("a text has at most 4096 bytes")]
+    TextLength,
+    /// The line has no text that may be added.
     #[error("encoding is invalid")]
     NoText,
-    /// Its name has a control character.
-    #[error("a name has no control character")]
-    Control,
-    /// Its name is taken.
+    /// The name is empty or too long.
+    #[error("a name has 1 to 4096 bytes")]
+    NameLength,
+    /// The name has a colon or a control character.
+    #[error("a name has no colon and no control character")]
+    Character,
+    /// The name begins with a byte order mark, which an import leaves out before the first line.
+    #[error("a name begins with no byte order mark")]
+    Mark,
+    /// The name is taken.
     #[error("name is taken")]
     Taken,
 }
@@ -39,9 +48,9 @@ pub enum Failure {
     /// A line for a new password is empty.
     #[error("a new password has 1 to 4096 bytes")]
     EmptyPassword,
-    /// A new name has a colon or a control character.
-    #[error("a name has no colon and no control character")]
-    Name,
+    /// A new name may not be added.
+    #[error(transparent)]
+    Name(Flaw),
     /// The parameters are above the bound.
     #[error("parameters are above the bound")]
     Params,
@@ -107,7 +116,7 @@ impl Failure {
             Failure::NoPassword
             | Failure::LongPassword
             | Failure::EmptyPassword
-            | Failure::Name
+            | Failure::Name(_)
             | Failure::Line(_, _) => 1,
             Failure::Params => 2,
             Failure::Refused(BoundError::Refused(password_hash::Error::PasswordInvalid)) => 1,

@@ -4,7 +4,7 @@ ghost use Rattle.std.specs.Prelude.{◌≡◌, IfOk, map};
 ghost use Rattle.argon2_passwd.specs.Lines.{AreSaid, IsEntryOrFlaw, entries_in, entry_or_flaw, flaws_from};
 ghost use Rattle.argon2_rows.specs.Names.{entry_of};
 
-use crate::entries::{has_control, parts, stored};
+use crate::entries::{BYTE_ORDER_MARK, LONGEST, name_flaw, parts, stored};
 use crate::failure::Flaw;
 use crate::passwords::line_len;
 use argon2_programs::{after_any, bare_str};
@@ -13,9 +13,6 @@ use std::alloc::{AllocError, Global};
 
 /// What a line says: a name and a text that may be added, or why it has none.
 pub type Line<'a> = Result<(&'a str, StoredText<'a>), Flaw>;
-
-// What some programs put before the first line.
-const BYTE_ORDER_MARK: &str = "\u{feff}";
 
 /// What each line says behind a byte order mark.
 ///
@@ -41,10 +38,14 @@ fn read_line(line: &[u8], any_text: bool) -> Line<'_>
     ensures { IsEntryOrFlaw any_text line.now (entry_or_flaw result) }
 {
     let (name, text) = parts(line);
-    match stored(bare_str(text), any_text) {
-        None => Err(Flaw::NoText),
-        Some(_) if has_control(name) => Err(Flaw::Control),
-        Some(text) => Ok((name, text)),
+    let text = bare_str(text);
+    if text.len() > LONGEST {
+        return Err(Flaw::TextLength);
+    }
+    match (stored(text, any_text), name_flaw(name)) {
+        (None, _) => Err(Flaw::NoText),
+        (Some(_), Some(flaw)) => Err(flaw),
+        (Some(text), None) => Ok((name, text)),
     }
 }
 

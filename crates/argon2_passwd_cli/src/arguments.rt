@@ -35,7 +35,8 @@ most 4096 bytes, and a new one at least one.
   check TEXT          accept or refuse the password; if it is accepted, write \"text is current\" if TEXT was
                       made under the parameters, and else \"text is renewed\" and a new text; with - for TEXT,
                       read it from the line before the password, so that other users can't see it
-  register FILE NAME  give a new name, without a colon or a control character, a text of the password
+  register FILE NAME  give a new name a text of the password; it has 1 to 4096 bytes, no colon, no control
+                      character and no byte order mark at its start
   verify FILE NAME    accept or refuse the password; write \"text is current\" if it is accepted, or
                       \"text is renewed\" once FILE has a new text in place of one under other parameters
   change FILE NAME    give the name a text of the second line if the first line is accepted

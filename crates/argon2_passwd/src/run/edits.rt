@@ -6,12 +6,12 @@ ghost use Rattle.argon2_passwd.specs.Answers.{Ends, IsApplied, IsServed, Serves,
 use super::accounts::{Access, look, open};
 use super::{generator, new_text};
 use crate::command::{Action, Edit, Task};
-use crate::entries::has_control;
+use crate::entries::name_flaw;
 use crate::failure::Failure;
 use crate::outside::Outside;
 use crate::passwords::{new_password, password};
 use argon2::PasswordHash;
-use argon2_store::{AccountFile, FileError, View};
+use argon2_store::{AccountFile, FileError};
 use sqlite_trees::store::Store;
 use std::alloc::Global;
 use std::io::BufRead;
@@ -43,10 +43,10 @@ pub(super) fn edit<P: Outside, R: BufRead>(
         (R.remaining input.old) output output (P.closed outside.new) }
 {
     match edit {
-        Edit::Register if View::Texts.breaks_line(name.as_bytes()) || has_control(name) => {
-            Err(Failure::Name)
-        }
         Edit::Register => {
+            if let Some(flaw) = name_flaw(name) {
+                return Err(Failure::Name(flaw));
+            }
             let text = new_text(alloc, outside, access.policy, input)?;
             call(outside, access, name, &Step::Add(text))
         }

@@ -1,12 +1,37 @@
-use Rattle.argon2_passwd.proofs.Common.{ap, arith, IsTaken, List, subst, sym, ℕ, ◌∙◌}
+use Rattle.argon2_passwd.proofs.Common.{ap, arith, Bool, Flaw, IsTaken, length, List, None, Option, Some, subst, sym, ℕ, ◌≡◌, ◌∙◌}
+use Rattle.std.specs.Prelude.{◌≤◌, if◌then◌else◌}
 use Rattle.argon2_programs.specs.Prefixes.{without_prefix}
+use Rattle.argon2_passwd.specs.Lines.{Character, IsFlaw, Mark, NameLength, NoText, Taken, TextLength, name_flaw, parts_of}
 use Rattle.argon2_passwd.proofs.lines.read_line.Goals as goal
 
-pub returns-in-Some : goal.returns-in-Some
-returns-in-Some c =
-    let text = c.bare_str.ensures ∙ ap (λ (e : List ℕ × List ℕ). without_prefix e.1) c.parts.ensures in
-    let name = ap (λ (e : List ℕ × List ℕ). e.0) c.parts.ensures in
-    (subst (IsTaken c.args.any_text) text c.in-Some.ensures.1, rw (← name) (sym c.has_control.ensures ∙ c.if-has_control.true))
+abbrev chosen : Bool → Bool → Bool → Option Flaw
+chosen a b c = if a then Some NameLength else if b then Some Character else if c then Some Mark else None
 
-pub returns-in-Some-2 : goal.returns-in-Some-2
-returns-in-Some-2 c = grind arith
+-- a flaw of a name is none of a text
+no_length : (a b c : Bool) → ¬ (chosen a b c ≡ Some TextLength)
+no_length a b c is = grind arith
+
+no_text : (a b c : Bool) → ¬ (chosen a b c ≡ Some NoText)
+no_text a b c is = grind arith
+
+-- what the flaw of a name is to its line
+flaw_of_name : (any_text : Bool) (name text : List ℕ) (flaw : Flaw) → length text ≤ 4096 → IsTaken any_text text
+    → name_flaw name ≡ Some flaw → IsFlaw any_text name text flaw
+flaw_of_name any_text name text TextLength short taken is = absurd (no_length _ _ _ is)
+flaw_of_name any_text name text NoText short taken is = absurd (no_text _ _ _ is)
+flaw_of_name any_text name text NameLength short taken is = (short, taken, is)
+flaw_of_name any_text name text Character short taken is = (short, taken, is)
+flaw_of_name any_text name text Mark short taken is = (short, taken, is)
+flaw_of_name any_text name text Taken short taken is = (short, taken, is)
+
+pub returns-in-Some-Some : goal.returns-in-Some-Some
+returns-in-Some-Some c =
+    let text = c.bare_str-text.ensures ∙ ap (λ (e : List ℕ × List ℕ). without_prefix e.1) c.parts.ensures in
+    let name = ap (λ (e : List ℕ × List ℕ). e.0) c.parts.ensures in
+    let short : length c.bare_str-text.result.now ≤ 4096 = grind (arith, c.if-text-gt-LONGEST.false) in
+    let flawed = sym (ap name_flaw name) ∙ sym c.name_flaw.ensures ∙ c.in-Some-Some.is-1 in
+    flaw_of_name _ (parts_of c.args.line.now).0 _ _ (subst (λ t. length t ≤ 4096) text short)
+    (subst (IsTaken c.args.any_text) text c.in-Some-Some.ensures.1) flawed
+
+pub returns-in-Some-None : goal.returns-in-Some-None
+returns-in-Some-None c = grind arith

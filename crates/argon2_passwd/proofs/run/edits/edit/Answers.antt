@@ -1,12 +1,12 @@
-use Rattle.argon2_passwd.proofs.Common.{[], arith, false, inl, inr, keeps_same, ◌≡◌}
-use Rattle.argon2_passwd.specs.Answers.{breaks_lines}
+use Rattle.argon2_passwd.proofs.Common.{[], arith, inl, inr, keeps_same, None, ◌≡◌}
+use Rattle.argon2_passwd.specs.Lines.{name_flaw}
 use Rattle.argon2_passwd.proofs.run.edits.edit.Goals as goal
 
-pub returns-in_ok-text-in-Register-2 : goal.returns-in_ok-text-in-Register-2
-returns-in_ok-text-in-Register-2 g c output =
-    let unbroken : breaks_lines c.args.name.now ≡ false = grind arith in
-    rw c.in-Register-2.is (elim (c.call.ensures [] c.requires) [
-      | inl applied ↦ inl (keeps_same _, (unbroken, _, c.in_ok-text-in-Register-2.ensures.ok, applied))
+pub returns-in_ok-text-in-Register : goal.returns-in_ok-text-in-Register
+returns-in_ok-text-in-Register g c output =
+    let fits : name_flaw c.args.name.now ≡ None = grind arith in
+    rw c.in-Register.is (elim (c.call.ensures [] c.requires) [
+      | inl applied ↦ inl (keeps_same _, (fits, _, c.in_ok-text-in-Register.ensures.ok, applied))
       | inr (shut, why) ↦ inr (shut, grind arith)
     ])
 
