@@ -4,9 +4,10 @@ use Rattle.std.specs.Prelude.{nat_le, if◌then◌else◌}
 use Rattle.std.proofs.lemmas.Bool.{leb-true}
 use Rattle.argon2_calibrate.specs.Choice.{AreTrials, IsCandidate, IsGreatest, IsNext, IsMeasured, below, best, further_of}
 use Rattle.argon2_calibrate.specs.declared.choice.Choice.{Choice}
+use Rattle.argon2_calibrate.specs.declared.stopwatch.Times.{Times}
 
 -- the search after so many trials
-pub record IsTried (Takes : ℕ → ℕ → Option (List ℕ) → Type 0) (target : ℕ) (first now : Choice)
+pub record IsTried (Takes : ℕ → ℕ → Option Times → Type 0) (target : ℕ) (first now : Choice)
     (most next count : ℕ) : Type 0 where
   pub costs : IsCandidate Takes target first now
   pub trials : List Choice
@@ -21,14 +22,14 @@ bound_more : (b : Bool) (most next : ℕ) → next ≤ most → (if b then most 
 bound_more true most next fits = refl
 bound_more false most next fits = omega arith
 
-costs_more : {Takes : ℕ → ℕ → Option (List ℕ) → Type 0} {target : ℕ} {first now : Choice} (trial : Choice) (b : Bool)
+costs_more : {Takes : ℕ → ℕ → Option Times → Type 0} {target : ℕ} {first now : Choice} (trial : Choice) (b : Bool)
     → nat_le trial.time target ≡ b → IsCandidate Takes target first now → now.t_cost < trial.t_cost → trial.m_cost ≡ first.m_cost
     → IsMeasured Takes trial → IsCandidate Takes target first (if b then trial else now)
 costs_more trial true test costs rises memory took =
     record { memory = memory; some = omega (arith, costs.some); measured = took; within = inl (leb-true _ _ test) }
 costs_more trial false test costs rises memory took = costs
 
-pub tried_more : {Takes : ℕ → ℕ → Option (List ℕ) → Type 0} {target : ℕ} {first now : Choice} {most next count : ℕ}
+pub tried_more : {Takes : ℕ → ℕ → Option Times → Type 0} {target : ℕ} {first now : Choice} {most next count : ℕ}
     (trial : Choice) (more : ℕ) (b : Bool) → nat_le trial.time target ≡ b → IsTried Takes target first now most next count
     → now.t_cost < next → trial.t_cost ≡ next → trial.m_cost ≡ first.m_cost → IsMeasured Takes trial
     → IsGreatest target first (further_of first next trial.time) more → IsTried Takes target first (if b then trial else now)

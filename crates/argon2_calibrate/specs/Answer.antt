@@ -7,6 +7,7 @@ use Rattle.json.specs.Json.{Json, boolean, number, object, member, no_members, d
 use Rattle.argon2_calibrate.specs.Choice.{IsChoice}
 use Rattle.argon2_calibrate.specs.declared.choice.Found.{Found}
 use Rattle.argon2_calibrate.specs.declared.options.Options.{Options}
+use Rattle.argon2_calibrate.specs.declared.stopwatch.Times.{Times}
 
 -- costs as a list of parameters, a line
 abbrev pub list_text : ℕ → ℕ → ℕ → List ℕ
@@ -44,7 +45,7 @@ json_of found p = object (member (codes "m") (number (decimal found.choice.m_cos
     (member (codes "busy") (boolean found.busy) no_members)))))
 
 -- costs that are chosen by measured times, and how long they take: a line with a JSON object, or lines
-abbrev pub PrintsCosts : (ℕ → ℕ → ℕ → Option (List ℕ) → Type 0) → Options → Option (List ℕ) → Option (List ℕ) → Type 0
+abbrev pub PrintsCosts : (ℕ → ℕ → ℕ → Option Times → Type 0) → Options → Option (List ℕ) → Option (List ℕ) → Type 0
 PrintsCosts Takes options old new = (found : Found) × IsChoice (Takes options.lanes) options found
     × MatchBool options.json
     ((text : List ℕ) × (document text ≡ Some (json_of found options.lanes)) × Appends old new (text ++ 10 ∷ []))

@@ -1,9 +1,10 @@
 -- Costs that are chosen by measured times.
-use Rattle.std.specs.Prelude.{◌≡◌, ◌⊎◌, ⊤, ℕ, ◌+◌, ◌-◌, ◌*◌, ◌<◌, ◌≤◌, ◌/◌, zero, suc, max, min, nat_le, nat_lt, if◌then◌else◌, List, [], ◌∷◌, length, Bool, Option, Some, None, unwrap_or, IsFalse}
+use Rattle.std.specs.Prelude.{◌≡◌, ◌⊎◌, ⊤, ℕ, ◌+◌, ◌-◌, ◌*◌, ◌<◌, ◌≤◌, ◌/◌, ◌||◌, zero, suc, max, min, nat_le, nat_lt, if◌then◌else◌, List, [], ◌∷◌, length, Bool, Option, Some, None, unwrap_or, IsFalse}
 use Rattle.argon2.specs.Settings.{AreValid, cost_parameters}
 use Rattle.argon2_calibrate.specs.declared.choice.Choice.{Choice}
 use Rattle.argon2_calibrate.specs.declared.choice.Found.{Found}
 use Rattle.argon2_calibrate.specs.declared.options.Options.{Options}
+use Rattle.argon2_calibrate.specs.declared.stopwatch.Times.{Times}
 
 -- the least number of passes over so much memory: what is asked for, or else 2 below 64 MiB and 1 from there on
 abbrev pub least_passes : Option ℕ → ℕ → ℕ
@@ -36,10 +37,15 @@ ArePossible options = AreValid (cost_parameters options.most (unwrap_or options.
 abbrev pub scatter : ℕ → ℕ → ℕ → Bool
 scatter a b c = nat_lt (min (min a b) c / 4) (max (max a b) c - min (min a b) c)
 
--- three hashes were measured: the least of their times, and whether the times scatter
-abbrev pub IsMeasured : (ℕ → ℕ → Option (List ℕ) → Type 0) → Choice → Type 0
-IsMeasured Takes choice = (a : ℕ) × (b : ℕ) × (c : ℕ) × Takes choice.m_cost choice.t_cost (Some (a ∷ b ∷ c ∷ []))
-    × (choice.time ≡ min (min a b) c) × (choice.busy ≡ scatter a b c)
+-- the processor worked for less than three quarters of a time
+abbrev pub is_shared : ℕ → ℕ → Bool
+is_shared worked time = nat_lt worked (time - time / 4)
+
+-- three hashes were measured: the least of their times, and whether these scatter or the processor was shared
+abbrev pub IsMeasured : (ℕ → ℕ → Option Times → Type 0) → Choice → Type 0
+IsMeasured Takes choice = (times : Times) × (a b c : ℕ) × Takes choice.m_cost choice.t_cost (Some times)
+    × (times.taken ≡ a ∷ b ∷ c ∷ []) × (choice.time ≡ min (min a b) c)
+    × (choice.busy ≡ (scatter a b c || is_shared times.worked choice.time))
 
 -- memory halved so often
 abbrev pub halved : ℕ → ℕ → ℕ
@@ -47,18 +53,18 @@ halved zero most = most
 halved (suc times) most = halved times most / 2
 
 -- so much memory was refused, or the least passes over it were measured to take longer than the target
-abbrev pub IsTooMuch : (ℕ → ℕ → Option (List ℕ) → Type 0) → Options → ℕ → Type 0
+abbrev pub IsTooMuch : (ℕ → ℕ → Option Times → Type 0) → Options → ℕ → Type 0
 IsTooMuch Takes options m_cost = Takes m_cost (least_passes options.min_t m_cost) None
     ⊎ ((choice : Choice) × (choice.m_cost ≡ m_cost) × (choice.t_cost ≡ least_passes options.min_t m_cost)
     × IsMeasured Takes choice × (options.target < choice.time))
 
 -- the most memory was halved to this, each time since it was too much
-abbrev pub IsHalved : (ℕ → ℕ → Option (List ℕ) → Type 0) → Options → ℕ → Type 0
+abbrev pub IsHalved : (ℕ → ℕ → Option Times → Type 0) → Options → ℕ → Type 0
 IsHalved Takes options m_cost = (times : ℕ) × (m_cost ≡ halved times options.most)
     × ((before : ℕ) → before < times → IsTooMuch Takes options (halved before options.most))
 
 -- the memory was halved until the least passes were within the target, or to the least for so many lanes
-pub record IsFirst (Takes : ℕ → ℕ → Option (List ℕ) → Type 0) (options : Options) (first : Choice) : Type 0 where
+pub record IsFirst (Takes : ℕ → ℕ → Option Times → Type 0) (options : Options) (first : Choice) : Type 0 where
   pub least : first.t_cost ≡ least_passes options.min_t first.m_cost
   pub some : 8 * options.lanes ≤ first.m_cost
   pub affordable : first.m_cost ≤ options.most
@@ -88,7 +94,7 @@ best target first [] = first
 best target first (last ∷ earlier) = if nat_le last.time target then last else best target first earlier
 
 -- each was tried after those before, is of more passes over the same memory than the best of them, and was measured
-abbrev pub AreTrials : (ℕ → ℕ → Option (List ℕ) → Type 0) → ℕ → Choice → List Choice → Type 0
+abbrev pub AreTrials : (ℕ → ℕ → Option Times → Type 0) → ℕ → Choice → List Choice → Type 0
 AreTrials Takes target first [] = ⊤
 AreTrials Takes target first (last ∷ earlier) = IsNext target first earlier last.t_cost
     × ((best target first earlier).t_cost < last.t_cost) × (last.m_cost ≡ first.m_cost) × IsMeasured Takes last
@@ -99,15 +105,15 @@ abbrev pub IsShort : ℕ → List Choice → Choice → Type 0
 IsShort target trials choice = (choice.time < target / 2) × (choice.t_cost < below target trials)
 
 -- costs over the same memory, of as many passes or more, that were measured to be within the target unless they are the first
-pub record IsCandidate (Takes : ℕ → ℕ → Option (List ℕ) → Type 0) (target : ℕ) (first choice : Choice) : Type 0 where
+pub record IsCandidate (Takes : ℕ → ℕ → Option Times → Type 0) (target : ℕ) (first choice : Choice) : Type 0 where
   pub memory : choice.m_cost ≡ first.m_cost
   pub some : first.t_cost ≤ choice.t_cost
   pub measured : IsMeasured Takes choice
   pub within : (choice.time ≤ target) ⊎ (choice ≡ first)
 
 -- trials, four or until no more passes are left to try, and the best of them. The machine was not busy only if its
--- three times do not scatter, and it is not short
-pub record IsBest (Takes : ℕ → ℕ → Option (List ℕ) → Type 0) (target : ℕ) (first : Choice) (found : Found) : Type 0 where
+-- three times do not scatter, the processor was not shared, and it is not short
+pub record IsBest (Takes : ℕ → ℕ → Option Times → Type 0) (target : ℕ) (first : Choice) (found : Found) : Type 0 where
   pub costs : IsCandidate Takes target first found.choice
   pub trials : List Choice
   pub tried : AreTrials Takes target first trials
@@ -119,7 +125,7 @@ pub record IsBest (Takes : ℕ → ℕ → Option (List ℕ) → Type 0) (target
 -- the parameters are valid, and were measured to be within the target, unless they are the least passes over the
 -- least memory; the memory is the most that is there and with which the least passes are within it, by halves; and the
 -- passes are the least or more: the most that were tried and are within it
-pub record IsChoice (Takes : ℕ → ℕ → Option (List ℕ) → Type 0) (options : Options) (found : Found) : Type 0 where
+pub record IsChoice (Takes : ℕ → ℕ → Option Times → Type 0) (options : Options) (found : Found) : Type 0 where
   pub valid : AreValid (cost_parameters found.choice.m_cost found.choice.t_cost options.lanes None)
   pub least : least_passes options.min_t found.choice.m_cost ≤ found.choice.t_cost
   pub within : (found.choice.time ≤ options.target)

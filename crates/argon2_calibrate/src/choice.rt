@@ -1,7 +1,7 @@
 //! Costs that are chosen by measured times.
 
 ghost use Rattle.std.specs.Prelude.{◌≡◌, ◌≤◌, ◌<◌, IfSome};
-ghost use Rattle.argon2_calibrate.specs.Choice.{IsGreatest, further_of, least_passes, scatter};
+ghost use Rattle.argon2_calibrate.specs.Choice.{IsGreatest, further_of, is_shared, least_passes, scatter};
 
 /// Memory and passes, and how long three hashes under them take.
 #[derive(Clone, Copy, Debug, PartialEq, Eq)]
@@ -12,7 +12,7 @@ pub struct Choice {
     pub t_cost: u32,
     /// The least of the three times, in microseconds.
     pub time: u64,
-    /// Whether the three times scatter.
+    /// Whether the three times scatter, or the processor did other work.
     pub busy: bool,
 }
 
@@ -31,6 +31,13 @@ pub fn scatter(a: u64, b: u64, c: u64) -> bool
 {
     let least = a.min(b).min(c);
     a.max(b).max(c) - least > least / 4
+}
+
+/// Whether the processor worked for less than three quarters of a time: it did other work meanwhile.
+pub fn is_shared(worked: u64, time: u64) -> bool
+    ensures { result ≡ is_shared worked time }
+{
+    worked < time - time / 4
 }
 
 /// The least number of passes over so much memory: what is asked for, or else 2 below 64 MiB and 1 from there on.

@@ -10,4 +10,4 @@ mod stopwatch;
 mod tests;
 
 pub use options::Options;
-pub use stopwatch::{Machine, Stopwatch};
+pub use stopwatch::{Machine, Stopwatch, Times};

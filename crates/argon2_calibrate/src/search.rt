@@ -3,10 +3,10 @@
 ghost use Rattle.std.specs.Prelude.{◌≡◌, ◌≤◌, IfOk, IsFalse, MatchOption, None};
 ghost use Rattle.argon2_calibrate.specs.Choice.{ArePossible, IsBest, IsChoice, IsFirst, IsMeasured};
 
-use crate::choice::{Choice, Found, further, least_passes, passes, scatter};
+use crate::choice::{Choice, Found, further, is_shared, least_passes, passes, scatter};
 use crate::options::Options;
 use crate::run::PROGRAM;
-use crate::stopwatch::Stopwatch;
+use crate::stopwatch::{Stopwatch, Times};
 use argon2_programs::Failure;
 use std::alloc::AllocError;
 use std::io::Write;
@@ -123,12 +123,13 @@ fn measured<S: Stopwatch, E: Write>(
     let Some(taken) = times(stopwatch, errors, lanes, m_cost, t_cost)? else {
         return Ok(None);
     };
-    let [a, b, c] = taken;
+    let [a, b, c] = taken.taken;
+    let time = a.min(b).min(c);
     let choice = Choice {
         m_cost,
         t_cost,
-        time: a.min(b).min(c),
-        busy: scatter(a, b, c),
+        time,
+        busy: scatter(a, b, c) || is_shared(taken.worked, time),
     };
     let (seconds, micros) = (choice.time / 1_000_000, choice.time % 1_000_000);
     let _ = writeln!(
@@ -145,7 +146,7 @@ fn times<S: Stopwatch, E: Write>(
     lanes: u32,
     m_cost: u32,
     t_cost: u32,
-) -> Result<Option<[u64; 3]>, Failure>
+) -> Result<Option<Times>, Failure>
     ensures { IfOk result (λ times. S.may_take lanes m_cost t_cost times) }
 {
     let mut times = stopwatch.times(lanes, m_cost, t_cost)?;
@@ -153,7 +154,7 @@ fn times<S: Stopwatch, E: Write>(
         let Some(taken) = times else {
             break;
         };
-        let [a, b, c] = taken;
+        let [a, b, c] = taken.taken;
         if !scatter(a, b, c) {
             break;
         }

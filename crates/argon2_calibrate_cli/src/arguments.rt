@@ -14,14 +14,15 @@ const ABOUT: &str = "\
 Finds the costs under which a hash by Argon2id takes a given time on this machine.
 
 It hashes three times for each choice, and writes the least time to standard error. First it halves the
-memory, from the most on, until the least passes are within the time and the memory is there. Then it
-takes the most passes that are within the time, of up to four numbers that it tries. It writes the
-parameters as a list, as a call and with the time that was measured.
+memory, from the most on, until the least passes are within the time and the memory is there: available
+when the program starts, and granted. Then it takes the most passes that are within the time, of up to
+four numbers that it tries. It writes the parameters as a list, as a call and with the time that was
+measured.
 
 The machine is busy if the greatest of three times is above the least by more than a quarter. Then it
-measures again, at most five times in all. If some times still differ that much in the end, or the time
-of the costs is less than half of the target though a pass more may fit, a last line or the JSON object
-says so.";
+measures again, at most five times in all. If some times still differ that much in the end, or the
+processor worked for less than three quarters of a time, or the time of the costs is less than half of
+the target though a pass more may fit, a last line or the JSON object says so.";
 
 const NOTES: &str = "\
 Example: argon2-calibrate --lanes 4 0.5 1024

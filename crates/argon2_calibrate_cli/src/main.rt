@@ -5,6 +5,7 @@ use argon2_calibrate::Machine;
 use argon2_calibrate::run::{PROGRAM, run};
 use argon2_commands::answer;
 use argon2_programs::words;
+use std::fs;
 use std::process::ExitCode;
 
 mod arguments;
@@ -18,10 +19,27 @@ fn main(rt: HostRuntime) -> ExitCode {
     };
     let status = match arguments::parsed(alloc, words.as_slice()) {
         Ok(options) => {
-            let mut machine = Machine::new(alloc, &rt);
+            let mut machine = Machine::new(alloc, &rt, available(&rt));
             run(alloc, options, &mut machine, &mut output, &mut errors)
         }
         Err(error) => answer(PROGRAM, &error, &mut output, &mut errors),
     };
     ExitCode::from(status)
+}
+
+// How many blocks of memory the system has for a new program without swapping; no bound if it does not say.
+fn available(rt: &HostRuntime) -> u32 {
+    match fs::read_to_string(rt, "/proc/meminfo") {
+        Ok(text) => text
+            .lines()
+            .find_map(|line| blocks(line))
+            .unwrap_or(u32::MAX),
+        Err(_) => u32::MAX,
+    }
+}
+
+// The number of a line `MemAvailable: N kB`.
+fn blocks(line: &str) -> Option<u32> {
+    let number = line.strip_prefix("MemAvailable:")?.strip_suffix("kB")?;
+    number.trim().parse::<u32>().ok()
 }

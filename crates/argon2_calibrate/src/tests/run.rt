@@ -3,7 +3,7 @@
 use crate::options::Options;
 use crate::run::run;
 use crate::stopwatch::Stopwatch;
-use crate::tests::stopwatches::{Even, Full, Stopped, Uneven};
+use crate::tests::stopwatches::{Even, Full, Shared, Stopped, Uneven};
 use std::alloc::Global;
 use std::io;
 use std::io::{ErrorKind, Write};
@@ -353,6 +353,21 @@ fn reports_what_fails(rt: HostRuntime) -> Result<(), Fail> {
     }
     let stopped = "argon2-calibrate: the clock can't be read\n";
     assert!(rt; fails(rt.alloc(), ONE, &mut Stopped, 9, stopped)?);
+    Ok(())
+}
+
+// Three quarters of a second are the least of the processor's time for a second.
+#[test]
+fn is_busy_if_the_processor_does_other_work(rt: HostRuntime) -> Result<(), Fail> {
+    for (worked, busy) in [(749_999, true), (750_000, false)] {
+        let (output, _) = written(rt.alloc(), ONE, &mut Shared(worked))?;
+        let end = if busy {
+            "1.000000 seconds\nthe machine was busy: times may be too long\n"
+        } else {
+            "1.000000 seconds\n"
+        };
+        assert!(rt; output.as_slice().ends_with(end.as_bytes()), "{worked}");
+    }
     Ok(())
 }
 

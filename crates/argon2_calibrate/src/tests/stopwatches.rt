@@ -1,7 +1,14 @@
 //! Stopwatches that need no clock.
 
-use crate::stopwatch::Stopwatch;
+use crate::stopwatch::{Stopwatch, Times};
 use argon2_programs::Failure;
+
+// Times for which the processor worked for nothing else.
+fn alone(taken: [u64; 3]) -> Option<Times> {
+    let [a, b, c] = taken;
+    let worked = a.max(b).max(c);
+    Some(Times { taken, worked })
+}
 
 /// A machine on which a hash takes `a_block` nanoseconds for each block and pass, and `once` microseconds more. In the
 /// first `busy` measurements the last of three hashes takes a microsecond more than a machine that is not busy may.
@@ -13,20 +20,15 @@ pub(crate) struct Even {
 }
 
 impl Stopwatch for Even {
-    fn times(
-        &mut self,
-        _lanes: u32,
-        m_cost: u32,
-        t_cost: u32,
-    ) -> Result<Option<[u64; 3]>, Failure> {
+    fn times(&mut self, _lanes: u32, m_cost: u32, t_cost: u32) -> Result<Option<Times>, Failure> {
         let blocks = u64::from(m_cost).saturating_mul(u64::from(t_cost));
         let taken = (blocks.saturating_mul(self.a_block) / 1000).saturating_add(self.once);
         let close = taken.saturating_add(taken / 4);
         if self.busy == 0 {
-            return Ok(Some([close, taken, taken]));
+            return Ok(alone([close, taken, taken]));
         }
         self.busy -= 1;
-        Ok(Some([close, taken, close.saturating_add(1)]))
+        Ok(alone([close, taken, close.saturating_add(1)]))
     }
 }
 
@@ -35,17 +37,12 @@ impl Stopwatch for Even {
 pub(crate) struct Uneven(pub(crate) u64);
 
 impl Stopwatch for Uneven {
-    fn times(
-        &mut self,
-        _lanes: u32,
-        _m_cost: u32,
-        t_cost: u32,
-    ) -> Result<Option<[u64; 3]>, Failure> {
+    fn times(&mut self, _lanes: u32, _m_cost: u32, t_cost: u32) -> Result<Option<Times>, Failure> {
         if t_cost == 2 {
-            return Ok(Some([self.0, self.0.saturating_mul(2), self.0]));
+            return Ok(alone([self.0, self.0.saturating_mul(2), self.0]));
         }
         let taken = u64::from(t_cost).saturating_mul(10_000);
-        Ok(Some([taken, taken, taken]))
+        Ok(alone([taken, taken, taken]))
     }
 }
 
@@ -58,17 +55,25 @@ pub(crate) struct Full {
 }
 
 impl Stopwatch for Full {
-    fn times(
-        &mut self,
-        _lanes: u32,
-        m_cost: u32,
-        _t_cost: u32,
-    ) -> Result<Option<[u64; 3]>, Failure> {
+    fn times(&mut self, _lanes: u32, m_cost: u32, _t_cost: u32) -> Result<Option<Times>, Failure> {
         if m_cost > self.blocks || self.measurements == 0 {
             return Ok(None);
         }
         self.measurements -= 1;
-        Ok(Some([1000, 1000, 1000]))
+        Ok(alone([1000, 1000, 1000]))
+    }
+}
+
+/// A machine on which each hash takes a second, for so many microseconds of which the processor works.
+#[derive(Drop)]
+pub(crate) struct Shared(pub(crate) u64);
+
+impl Stopwatch for Shared {
+    fn times(&mut self, _lanes: u32, _m_cost: u32, _t_cost: u32) -> Result<Option<Times>, Failure> {
+        Ok(Some(Times {
+            taken: [1_000_000; 3],
+            worked: self.0,
+        }))
     }
 }
 
@@ -77,12 +82,7 @@ impl Stopwatch for Full {
 pub(crate) struct Stopped;
 
 impl Stopwatch for Stopped {
-    fn times(
-        &mut self,
-        _lanes: u32,
-        _m_cost: u32,
-        _t_cost: u32,
-    ) -> Result<Option<[u64; 3]>, Failure> {
+    fn times(&mut self, _lanes: u32, _m_cost: u32, _t_cost: u32) -> Result<Option<Times>, Failure> {
         Err(Failure::Other("the clock can't be read"))
     }
 }
