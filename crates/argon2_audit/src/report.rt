@@ -17,7 +17,8 @@ const KINDS: &str = "\nalgorithm  version           m           t         p     
 /// Where a line stands.
 #[derive(Clone, Copy)]
 pub struct Place<'a> {
-    /// The file's name, if there are several.
+    /// The file's name, if there are several. Lines show it so that a terminal acts on none of its characters: a control
+    /// character as `\x` and the two digits of its code, and `\` twice.
     pub file: Option<&'a str>,
     /// The line's number in its file.
     pub line: u64,
@@ -35,10 +36,17 @@ impl Place<'_> {
 
 impl Display for Place<'_> {
     fn fmt<W: fmt::Write>(&self, f: &mut fmt::Formatter<W>) -> fmt::Result {
-        match self.file {
-            Some(file) => write!(f, "{file}:{}", self.line),
-            None => write!(f, "line {}", self.line),
+        let Some(file) = self.file else {
+            return write!(f, "line {}", self.line);
+        };
+        for c in file.chars() {
+            match c {
+                '\\' => f.write_str("\\\\")?,
+                c if c.is_control() => write!(f, "\\x{:02x}", u32::from(c))?,
+                c => f.write_char(c)?,
+            }
         }
+        write!(f, ":{}", self.line)
     }
 }
 
