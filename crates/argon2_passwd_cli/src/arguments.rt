@@ -32,13 +32,13 @@ The password is the first line of standard input. The line's end, LF or CR LF, i
 most 4096 bytes, and a new one at least one.
 
   hash                write a text of the password, with a salt of 16 bytes from the system
-  check TEXT          accept or refuse the password; if it is accepted, write \"text is current\" if TEXT was
-                      made under the parameters, and else \"text is renewed\" and a new text; with - for TEXT,
+  check TEXT          accept or refuse the password; if it is accepted, write \"text is renewed\" and a new text
+                      if TEXT has weaker settings than new texts, and else \"text is current\"; with - for TEXT,
                       read it from the line before the password, so that other users can't see it
   register FILE NAME  give a new name a text of the password; it has 1 to 4096 bytes, no colon, no control
                       character and no byte order mark at its start
   verify FILE NAME    accept or refuse the password; write \"text is current\" if it is accepted, or
-                      \"text is renewed\" once FILE has a new text in place of one under other parameters
+                      \"text is renewed\" once FILE has a new text in place of one with weaker settings
   change FILE NAME    give the name a text of the second line if the first line is accepted
   set FILE NAME       give a name that is there a text of the password
   remove FILE NAME    remove the name with its text
