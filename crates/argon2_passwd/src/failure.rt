@@ -83,7 +83,7 @@ pub enum Failure {
     #[error("the secret's file can't be read")]
     Secret(bool),
     /// The file with the secret is empty or too long, or the one with the old one is too long.
-    #[error("a secret has 1 to 4096 bytes")]
+    #[error("a secret has 1 to 4096 bytes, and an old one 0 to 4096")]
     SecretLength(bool),
     /// The system gives no random bytes.
     #[error("the system gives no random bytes")]
