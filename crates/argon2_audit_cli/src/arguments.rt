@@ -23,10 +23,11 @@ Example: argon2-audit --min-m 65536 --allow-other /etc/shadow
 A line is sound if its text is in the grammar, names an algorithm and a version of Argon2, has valid
 parameters, a salt and a hash, and has nothing below the policy. A line may have 4096 bytes. A byte order
 mark at the start of a line and a carriage return at its end are skipped, and so is what Django, Dovecot and
-LDAP servers put before a text: argon2 before a $, {argon2}, {ARGON2}, {ARGON2I}, {ARGON2ID}, {CRYPT} and
-{crypt}. Texts of other schemes are named by how they begin, with the separator behind the name: bcrypt,
-scrypt, PBKDF2, yescrypt, sha256crypt, sha512crypt, md5crypt, and digests of Django and LDAP; argon2-audit(1)
-has the list. A line `scrypt:N:R:P$..` or `pbkdf2:sha256:N$..` (also sha1, sha512) is a text of Werkzeug
+LDAP servers put before a text: argon2 before a $, {argon2}, {ARGON2}, {ARGON2I}, {ARGON2ID}, {CRYPT},
+{crypt}, {BLF-CRYPT}, {MD5-CRYPT}, {SHA256-CRYPT} and {SHA512-CRYPT}. Texts of other schemes are named by how
+they begin, with the separator behind the name: bcrypt, scrypt, PBKDF2, yescrypt, sha256crypt, sha512crypt,
+md5crypt, and digests of Django and LDAP; argon2-audit(1) has the list. A line `scrypt:N:R:P$..` or
+`pbkdf2:sha256:N$..` (also sha1, sha512) is a text of Werkzeug
 without a name. A field that begins with a double quote ends behind the next one, as in CSV: two of them stand
 for one. A text that begins with ! or * is locked. An empty text is never sound: some systems take any password
 for it. All salts are kept, to find equal ones.

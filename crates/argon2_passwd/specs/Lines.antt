@@ -1,5 +1,5 @@
 -- The lines of an import: names with texts.
-use Rattle.std.specs.Prelude.{◌≡◌, ◌⊎◌, ◌||◌, ℕ, suc, ◌==◌, ◌<◌, ◌≤◌, nat_lt, true, false, Bool, IsOk, IsTrue, List, [], ◌∷◌, length, if◌then◌else◌, Option, Some, None, Result, Ok, Err}
+use Rattle.std.specs.Prelude.{◌≡◌, ◌⊎◌, ◌||◌, ◌&&◌, not, codes, ℕ, suc, ◌==◌, ◌<◌, ◌≤◌, nat_lt, true, false, Bool, IsOk, IsTrue, List, [], ◌∷◌, length, if◌then◌else◌, Option, Some, None, Result, Ok, Err}
 pub use Rattle.std.specs.Borrow.{Bor}
 use Rattle.std.specs.List.{AllZip, after_first, before_first, list_any}
 use Rattle.std.specs.Option.{is_some}
@@ -35,9 +35,13 @@ parts_of line = if is_utf8 line then (before_first (λ b. b == 58) line, after_f
 abbrev pub IsArgon2 : List ℕ → Type 0
 IsArgon2 text = (v : Phc) × PhcText text v × IsOk (shown_settings v)
 
--- the text begins as one of another scheme, locked or not
+-- The text has a colon, as only those of Werkzeug do. Behind any other text comes the next field of a line of another program.
+abbrev pub has_field : List ℕ → Bool
+has_field text = list_any (λ b. b == 58) text && not (begins_any (codes "scrypt:" ∷ codes "pbkdf2:" ∷ []) text)
+
+-- the text begins as one of another scheme, locked or not, and has no further field
 abbrev pub has_scheme : List ℕ → Bool
-has_scheme text = is_some (scheme_of (without_lock text))
+has_scheme text = is_some (scheme_of (without_lock text)) && not (has_field (without_lock text))
 
 -- a text of Argon2, locked or not; if any is taken, one in the grammar, or of another scheme
 abbrev pub IsTaken : Bool → List ℕ → Type 0

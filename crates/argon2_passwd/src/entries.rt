@@ -1,7 +1,7 @@
 //! A name with its text, a line of standard input.
 
 ghost use Rattle.std.specs.Prelude.{◌≡◌, IfErr, IfOk, IfSome, MatchOption};
-ghost use Rattle.argon2_passwd.specs.Lines.{IsNotTaken, IsTaken, has_control, has_scheme, name_flaw, parts_now, parts_of};
+ghost use Rattle.argon2_passwd.specs.Lines.{IsNotTaken, IsTaken, has_control, has_field, has_scheme, name_flaw, parts_now, parts_of};
 ghost use Rattle.argon2_passwd.specs.Failures.{status_of};
 
 use crate::failure::{Failure, Flaw, of_reading};
@@ -43,11 +43,19 @@ pub fn stored(text: &str, any_text: bool) -> Option<StoredText<'_>>
     }
 }
 
-// Whether a text begins as one of another scheme, locked or not.
+// Whether a text begins as one of another scheme, locked or not, and has no further field.
 fn has_scheme(text: &str) -> bool
     ensures { result ≡ has_scheme text.now }
 {
-    scheme_of(behind_lock(text).unwrap_or(text).as_bytes()).is_some()
+    let text = behind_lock(text).unwrap_or(text).as_bytes();
+    scheme_of(text).is_some() && !has_field(text)
+}
+
+// Whether a text has a colon, as only those of Werkzeug do. Behind any other text comes the next field of a line of another program.
+fn has_field(text: &[u8]) -> bool
+    ensures { result ≡ has_field text.now }
+{
+    text.contains(&b':') && !begins_any(text, &["scrypt:", "pbkdf2:"])
 }
 
 /// Why a name may not be added, if it may not.

@@ -27,4 +27,4 @@ after_django text = after_any (codes "argon2" ∷ []) text
 abbrev pub without_prefix : List ℕ → List ℕ
 without_prefix text = if begins_any (codes "$" ∷ []) (after_django text) then after_django text
     else after_any (codes "{argon2}" ∷ codes "{ARGON2}" ∷ codes "{ARGON2I}" ∷ codes "{ARGON2ID}" ∷ codes "{CRYPT}"
-    ∷ codes "{crypt}" ∷ []) text
+    ∷ codes "{crypt}" ∷ codes "{BLF-CRYPT}" ∷ codes "{MD5-CRYPT}" ∷ codes "{SHA256-CRYPT}" ∷ codes "{SHA512-CRYPT}" ∷ []) text

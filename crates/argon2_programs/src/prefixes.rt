@@ -7,13 +7,17 @@ ghost use Rattle.argon2_programs.specs.Prefixes.{after_any, without_prefix, begi
 const DJANGO: [&str; 1] = ["argon2"];
 
 // What Dovecot and LDAP servers put before one.
-const SCHEMES: [&str; 6] = [
+const SCHEMES: [&str; 10] = [
     "{argon2}",
     "{ARGON2}",
     "{ARGON2I}",
     "{ARGON2ID}",
     "{CRYPT}",
     "{crypt}",
+    "{BLF-CRYPT}",
+    "{MD5-CRYPT}",
+    "{SHA256-CRYPT}",
+    "{SHA512-CRYPT}",
 ];
 
 /// The text without what other programs put before it: Django's word before a `$`, or the first scheme in braces.

@@ -34,4 +34,13 @@ returns-in-Some-Some c =
     (subst (IsTaken c.args.any_text) text c.in-Some-Some.ensures.1) flawed
 
 pub returns-in-Some-None : goal.returns-in-Some-None
-returns-in-Some-None c = grind arith
+returns-in-Some-None c =
+    let text = c.bare_str-text.ensures ∙ ap (λ (e : List ℕ × List ℕ). without_prefix e.1) c.parts.ensures in
+    let short : length c.bare_str-text.result.now ≤ 4096 = grind (arith, c.if-text-gt-LONGEST.false) in
+    let same = c.in-Some-None.ensures.0 in (
+      ap (λ (e : List ℕ × List ℕ). e.0) c.parts.ensures,
+      same ∙ text,
+      subst (λ t. length t ≤ 4096) (sym same) short,
+      subst (IsTaken c.args.any_text) (sym same) c.in-Some-None.ensures.1,
+      sym c.in-Some-None.ensures',
+    )
