@@ -116,3 +116,93 @@ def built(crate):
         # (rt leaves the file as it is if the newer source is none of this program's)
         os.utime(program, (begun, begun))
     return program
+
+
+# A function as a line of a source defines it: how far it is from the margin, its visibility, and its name.
+FUNCTION = re.compile(r'^( *)(?:(pub)(\([a-z ]+\))? )?(?:(?:unsafe|const|extern "C") )*fn (\w+)', re.MULTILINE)
+# What begins the functions of a type.
+IMPL = re.compile(r"^(?:impl|(?:pub )?trait)\b(?:<(?:[^<>]|<[^<>]*>)*>)? ([^{]*)", re.MULTILINE)
+
+
+def module_of(crate, file):
+    """The path of a crate's module by its file: of argon2's `src/params/text.rt` it is `argon2::params::text`."""
+    parts = file.removeprefix("src/").removesuffix(".rt").split("/")
+    return "::".join([crate, *(it for it in parts if it not in ("lib", "main", "mod"))])
+
+
+class Function:
+    """A function of a crate's sources: its module, its type if it has one, its name, and whether it is public with a contract."""
+
+    def __init__(self, crate, file, text, found):
+        self.crate, self.module, self.name = crate, module_of(crate, file), found[4]
+        headers = IMPL.findall(text, 0, found.start()) if found[1] else []
+        self.type = re.match(r"&?(?:mut )?(\w+)", headers[-1].rpartition(" for ")[2])[1] if headers else ""
+        # (a contract ends before the body's brace, or the `;` of a trait's function)
+        head = re.split(r"\{$|^ *\{|;$", text[found.start() :], maxsplit=1, flags=re.MULTILINE)[0]
+        self.is_promise = bool(found[2] and not found[3] and re.search(r"^ *ensures ", head, re.MULTILINE))
+
+    def has_path(self, path):
+        """Whether a path, as a check prints it, is this function's. A type's function has the type's module, wherever it stands."""
+        *modules, last = path.split("::")
+        if not self.type:
+            return path == f"{self.module}::{self.name}"
+        near = "".join(f"{it}::" for it in modules[:-2])
+        return last == self.name and modules[-1].startswith(self.type) and f"{self.module}::".startswith(near)
+
+
+class WrongBody:
+    """A file must-fail/NAME.edit of a crate; ci/guards says what its lines are."""
+
+    def __init__(self, path):
+        self.path, self.folder = path, os.path.dirname(os.path.dirname(path))
+        self.crate, self.name = os.path.basename(self.folder), os.path.basename(path).removesuffix(".edit")
+        with open(path, encoding="utf-8") as it:
+            self.lines = it.read().rstrip("\n").split("\n")
+        self.promise = self.lines[0]
+        self.refused = self.line("refused: ")
+        self.function = self.refused.split(",")[0]
+        self.call = self.line("call: ") or self.function
+
+    def line(self, begin):
+        """What is behind a line's first words, or nothing if there is no such line."""
+        return next((it.removeprefix(begin) for it in self.lines if it.startswith(begin)), "")
+
+    def write_refused(self, words):
+        """Writes the line `refused:` anew."""
+        self.lines = [self.promise, f"refused: {words}", *(it for it in self.lines[1:] if not it.startswith("refused: "))]
+        with open(self.path, "w", encoding="utf-8") as it:
+            it.write("\n".join([*self.lines, ""]))
+        self.refused = words
+
+    def changes(self):
+        """Each change: its file, the text that stands there, and the one that takes its place."""
+        for line in self.lines:
+            if line.startswith("file: "):
+                file = line.removeprefix("file: ").strip()
+            elif line.startswith("old: "):
+                old = line.removeprefix("old: ")
+            elif line.startswith("new:"):
+                yield file, old, line.removeprefix("new:").removeprefix(" ")
+
+    def functions(self):
+        """The functions that it changes."""
+        for file, old, _ in self.changes():
+            with open(f"{self.folder}/{file}", encoding="utf-8") as it:
+                text = it.read()
+            found = [it for it in FUNCTION.finditer(text) if it.start() < text.find(old) + len(old)]
+            if file.startswith("src/") and found:
+                yield Function(self.crate, file, text, found[-1])
+
+
+def wrong_bodies(crate="*"):
+    """The wrong bodies of a crate, or of all."""
+    return [WrongBody(it) for it in sorted(glob.glob(f"{CRATES}/{crate}/must-fail/*.edit"))]
+
+
+def functions(crate="*"):
+    """Each function of a crate's sources, or of all."""
+    for path in sorted(glob.glob(f"{CRATES}/{crate}/src/**/*.rt", recursive=True)):
+        crate, _, file = os.path.relpath(path, CRATES).partition("/")
+        with open(path, encoding="utf-8") as it:
+            text = it.read()
+        yield from (Function(crate, file, text, found) for found in FUNCTION.finditer(text))
