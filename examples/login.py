@@ -1,0 +1,19 @@
+"""Verifies a password by a text that was made under a secret, within a bound, and renews the text, by argon2_proved."""
+
+from argon2_proved import Bound, Mismatch, PasswordHasher
+
+# A service reads its secret from a file that is not with the texts.
+HASHER = PasswordHasher(time_cost=2, memory_cost=19456, secret=b"the secret", bound=Bound(memory_cost=65536, time_cost=4))
+
+
+def log_in(text, password):
+    """The text to store from now on if a stored text accepts a password, else None."""
+    try:
+        return HASHER.log_in(text, password)
+    except Mismatch:
+        return None
+
+
+text = HASHER.hash("correct horse")
+print(text)
+print(log_in(text, "correct horse") == text, log_in(text, "wrong horse") is not None)
