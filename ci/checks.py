@@ -104,8 +104,10 @@ def newest_source():
 def built(crate):
     """The path of a crate's program: the one that `rt ci` leaves in out/, or one that `rt run` builds within an hour.
 
-    It is built if there is none, or if a source is newer.
+    It is built if there is none, or if a source is newer. If ARGON2_PROGRAMS names a folder, it is the file of its name there.
     """
+    if folder := os.environ.get("ARGON2_PROGRAMS"):
+        return os.path.join(folder, crate.removesuffix("_cli").replace("_", "-"))
     program = f"{CRATES}/{crate}/out/{crate}"
     if not os.path.exists(program) or os.path.getmtime(program) < newest_source():
         begun = time.time()

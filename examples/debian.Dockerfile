@@ -1,0 +1,7 @@
+# The commands, and PHP over the library, with the packages of a release in this folder.
+FROM debian:12-slim
+COPY argon2-proved_*_amd64.deb libargon2-1_*_amd64.deb /packages/
+RUN apt-get update \
+    && apt-get install -y --no-install-recommends php-cli /packages/*.deb \
+    && rm -r /packages /var/lib/apt/lists/*
+USER nobody
