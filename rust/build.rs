@@ -7,6 +7,14 @@ use std::path::{Path, PathBuf};
 use std::process::Command;
 
 const FILE: &str = "libargon2.a";
+/// The levels of x86-64 above the lowest, the best first, with features that no lower level has.
+const LEVELS: [(&str, &[&str]); 2] = [
+    (
+        "x86-64-v4",
+        &["avx512f", "avx512bw", "avx512cd", "avx512dq", "avx512vl"],
+    ),
+    ("x86-64-v3", &["avx2", "bmi2", "fma", "movbe"]),
+];
 
 fn main() {
     println!("cargo::rerun-if-changed=build.rs");
@@ -48,18 +56,16 @@ fn library() -> Result<PathBuf, String> {
     ))
 }
 
-/// The library in a folder, that for the target's processors if there are two.
+/// The library in a folder, that for the target's processors if there are several.
 fn library_in(folder: &Path) -> Result<PathBuf, String> {
     let features = variable("CARGO_CFG_TARGET_FEATURE");
-    let is_v3 = ["avx2", "bmi2", "fma", "movbe"]
-        .into_iter()
-        .all(|it| features.split(',').any(|feature| feature == it));
-    let level = folder.join("glibc-hwcaps/x86-64-v3").join(FILE);
-    let path = if is_v3 && level.is_file() {
-        level
-    } else {
-        folder.join(FILE)
-    };
+    let has = |name: &&str| features.split(',').any(|feature| feature == *name);
+    let path = LEVELS
+        .iter()
+        .filter(|(_, needed)| needed.iter().all(has))
+        .map(|(level, _)| folder.join("glibc-hwcaps").join(level).join(FILE))
+        .find(|it| it.is_file())
+        .unwrap_or_else(|| folder.join(FILE));
     let library = std::fs::read(&path).map_err(|why| format!("{}: {why}", path.display()))?;
     let call = b"argon2p_hash_into\0";
     if !library.windows(call.len()).any(|it| it == call) {
