@@ -3,7 +3,7 @@
  * SPDX-License-Identifier: MIT OR Apache-2.0
  *
  * How a static program starts. It has the code for each level of x86-64, takes that of its processor, and does what
- * scripts/starting does for the others. It asks nothing on a terminal. scripts/linking names the program by NAME.
+ * scripts/starting does for the others. It asks nothing on a terminal. scripts/link-static names the program by NAME.
  */
 #define _GNU_SOURCE
 #include <stdint.h>
