@@ -7,7 +7,8 @@ import sys
 
 HERE = os.path.dirname(os.path.realpath(__file__))
 TOP = os.path.dirname(HERE)
-CPUS = ("x86-64-v2", "x86-64-v3")
+# What bash runs to use the scripts of this repository.
+SCRIPTS = 'name=bench usage= share=; source "$0/scripts/common"; source "$root/scripts/building"; '
 # An environment in which the C library gives large memory in huge pages.
 HUGE_PAGES = {**os.environ, "GLIBC_TUNABLES": "glibc.malloc.hugetlb=1"}
 
@@ -25,6 +26,15 @@ def run(*words, folder=None, env=None):
     if done.returncode:
         sys.exit(f"{' '.join(words)}: {done.stdout[-2000:]}{done.stderr[-2000:]}")
     return done.stdout
+
+
+def levels():
+    """Returns the levels of x86-64 that this processor has, of those that the programs are built for."""
+    each = 'for level in "${all_levels[@]}"; do [[ $level > $processor ]] || echo "$level"; done'
+    return run("bash", "-c", f"{SCRIPTS} find_processor; {each}", TOP).split()
+
+
+CPUS = levels()
 
 
 def read(path):
@@ -48,13 +58,14 @@ def built(top, name, libraries, sources, words=()):
     own = [line for line in read(f"{TOP}/crates.txt").splitlines() if line.partition(":")[0] in needed]
     write(f"{top}/crates.txt", "\n".join([*own, f"{name}: {libraries}", ""]))
     os.makedirs(f"{top}/crates")
+    os.symlink(f"{TOP}/scripts", f"{top}/scripts")
     for line in own:
         run("cp", "-r", f"{TOP}/crates/{line.partition(':')[0]}", f"{top}/crates")
     folder, programs = f"{top}/crates/{name}", {}
     for file, text in sources.items():
         write(f"{folder}/src/{file}", text)
     for cpu in CPUS:
-        run("rt", "run", f"--cpu={cpu}", "--", *words, folder=folder)
+        run("bash", "-c", f'{SCRIPTS} build_level "$@"', TOP, cpu, "run", "--", *words, folder=folder)
         programs[cpu] = f"{top}/{cpu}"
         run("cp", f"{folder}/out/{name}", programs[cpu])
     return programs

@@ -6,13 +6,18 @@
  *   comparing times ROUNDS LIBRARY..       memory and passes of some kinds, one lane and four, in turns, each the third hash
  *                                          of a process, so that no library gets memory that another has used
  *
- * The first two print a line of counts, after those in which the libraries differ; the last prints lines of
- * memory, passes, lanes, and each library's least milliseconds of wall time and of processor time.
+ *   comparing rates ROUNDS LIBRARY..       hashes by one thread and by four side by side, for a second each, in turns; a library
+ *                                          may be libsodium
+ *
+ * The first two print a line of counts, after those in which the libraries differ; `times` prints lines of
+ * memory, passes, lanes, and each library's least milliseconds of wall time and of processor time, and `rates` lines of memory,
+ * passes, threads, and the most hashes a second of each library.
  */
 #define _GNU_SOURCE
 #include <argon2.h>
 
 #include <dlfcn.h>
+#include <pthread.h>
 #include <stdio.h>
 #include <stdlib.h>
 #include <string.h>
@@ -21,7 +26,7 @@
 #include <time.h>
 #include <unistd.h>
 
-enum { MOST = 8 };
+enum { MOST = 8, THREADS = 4 };
 
 static struct library {
     int (*ctx)(argon2_context *, argon2_type);
@@ -29,6 +34,8 @@ static struct library {
     int (*hash)(uint32_t, uint32_t, uint32_t, const void *, size_t, const void *, size_t, void *, size_t, char *,
         size_t, argon2_type, uint32_t);
     size_t (*encodedlen)(uint32_t, uint32_t, uint32_t, uint32_t, uint32_t, argon2_type);
+    int (*crypto_pwhash)(unsigned char *, unsigned long long, const char *, unsigned long long, const unsigned char *,
+        unsigned long long, size_t, int);
 } tried[MOST];
 
 static void load(struct library *library, const char *path) {
@@ -38,6 +45,7 @@ static void load(struct library *library, const char *path) {
     *(void **)&library->verify = dlsym(file, "argon2_verify");
     *(void **)&library->hash = dlsym(file, "argon2_hash");
     *(void **)&library->encodedlen = dlsym(file, "argon2_encodedlen");
+    *(void **)&library->crypto_pwhash = dlsym(file, "crypto_pwhash");
 }
 
 static uint64_t state = 88172645463325252ull;
@@ -202,12 +210,68 @@ static int times(long rounds, int count) {
     return 0;
 }
 
+static struct work {
+    const struct library *library;
+    uint32_t m, t;
+    double rate;
+} works[THREADS];
+
+/* Hashes for a second, and finds how many hashes a second that makes. */
+static void *hash_on(void *at) {
+    static const uint8_t salt[] = "somesaltsomesalt";
+    struct work *it = at;
+    const struct library *by = it->library;
+    const double begun = wall();
+    double took;
+    uint8_t out[32];
+    long made = 0;
+    do {
+        if (by->crypto_pwhash ? by->crypto_pwhash(out, 32, "password", 8, salt, it->t, (size_t)it->m << 10, 2)
+            : by->hash(it->t, it->m, 1, "password", 8, salt, 16, out, 32, NULL, 0, Argon2_id, 0x13))
+            fprintf(stderr, "comparing: no hash\n"), exit(1);
+        made++, took = wall() - begun;
+    } while (took < 1e3);
+    it->rate = made * 1e3 / took;
+    return NULL;
+}
+
+/* Hashes a second by so many threads side by side. */
+static double rate(const struct library *library, uint32_t m, uint32_t t, int count) {
+    pthread_t threads[THREADS];
+    double all = 0;
+    for (int i = 0; i < count; i++) {
+        works[i] = (struct work){library, m, t, 0};
+        if (pthread_create(&threads[i], NULL, hash_on, &works[i])) fprintf(stderr, "comparing: no thread\n"), exit(1);
+    }
+    for (int i = 0; i < count; i++) pthread_join(threads[i], NULL), all += works[i].rate;
+    return all;
+}
+
+static int rates(long rounds, int count) {
+    static const uint32_t costs[][2] = {{19456, 2}, {65536, 3}};
+    for (int row = 0; row < 4; row++) {
+        const uint32_t m = costs[row / 2][0], t = costs[row / 2][1];
+        const int threads = row % 2 ? THREADS : 1;
+        double most[MOST] = {0};
+        for (long i = 0; i < count * rounds; i++) {
+            const double found = rate(&tried[i % count], m, t, threads);
+            if (found > most[i % count]) most[i % count] = found;
+        }
+        printf("%u %u %d", m, t, threads);
+        for (int k = 0; k < count; k++) printf(" %.1f", most[k]);
+        puts("");
+        fflush(stdout);
+    }
+    return 0;
+}
+
 int main(int argc, char **argv) {
     const long count = argc > 2 ? atol(argv[2]) : 0;
     const int libraries = argc - 3;
     if (libraries < 1 || libraries > MOST) return 2;
     for (int k = 0; k < libraries; k++) load(&tried[k], argv[3 + k]);
     if (!strcmp(argv[1], "times")) return times(count, libraries);
+    if (!strcmp(argv[1], "rates")) return rates(count, libraries);
     if (libraries != 2) return 2;
     return strcmp(argv[1], "texts") ? requests(count) : texts(count);
 }
