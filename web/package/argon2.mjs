@@ -1,0 +1,279 @@
+// What each entry of the package has. The functions of the module are proved to decide, hash, read and write texts as their
+// contracts say; this copies their inputs and outputs, and names what they answer.
+
+import { Argon2Error, MISMATCH, must, NO_BLOCKS } from "./error.mjs";
+import { Instance } from "./instance.mjs";
+
+export { Argon2Error };
+
+const ALGORITHMS = ["argon2d", "argon2i", "argon2id"];
+const COSTS = { algorithm: "argon2id", version: 19, memory: 19456, passes: 2, lanes: 1, length: 32 };
+const TAG = { ...COSTS, secret: "", data: "" };
+const TEXT = { ...TAG, keyid: "" };
+// What a phone bears: the worst text takes 256 MiB, and as long as eleven hashes of 64 MiB and three passes.
+const BOUND = { memory: 262144, passes: 8, lanes: 16, minLength: 16, maxLength: 64 };
+
+const DRAWN_SALT = 16;
+const TEXT_SIZE = 327;
+const SHOWN_SIZE = 208;
+// An instance whose memory has grown above this many bytes is dropped, since it never shrinks.
+const KEPT_SIZE = 2 ** 27;
+// The milliseconds after which rawAsync lets others run.
+const TURN = 8;
+
+/** Hashes and verifies. `load` of an entry makes one. */
+export class Argon2 {
+  #module;
+  #kept;
+
+  constructor(module) {
+    this.#module = module;
+  }
+
+  /** The PHC text of a password. */
+  hash(password, options = {}) {
+    const wanted = complete({ ...TEXT, salt: crypto.getRandomValues(new Uint8Array(DRAWN_SALT)) }, options);
+    return this.#use((instance) => {
+      const inputs = new Inputs(instance, wanted, password, wanted.salt);
+      must(inputs.refusal("text_refusal", inputs.salt[1], BigInt(wanted.length), inputs.password[1]));
+      return inputs.text(inputs.tag());
+    });
+  }
+
+  /** Whether a text accepts a password. */
+  verify(text, password, options = {}) {
+    const { secret, oldSecret, bound } = complete({ secret: "", oldSecret: undefined, bound: BOUND }, options);
+    const most = complete(BOUND, bound);
+    return this.#use((instance) => {
+      const limits = instance.writeNumbers(...Object.entries(most).map(([name, value]) => whole(value, `the bound's ${name}`)));
+      const [stored, given] = [instance.write(text, "the text"), instance.write(password, "the password")];
+      const secrets = [instance.write(secret, "the secret")];
+      if (oldSecret !== undefined) secrets.push(instance.write(oldSecret, "the old secret"));
+      const verifyUnder = (key, blocks) => instance.call("phc_verify", limits, ...stored, ...given, ...key, ...blocks);
+      const none = instance.lend(0, 16);
+      for (const key of secrets) {
+        const answer = verifyUnder(key, none);
+        if (answer !== NO_BLOCKS) throw new Argon2Error(answer);
+      }
+      const { memory, lanes } = show(instance, stored);
+      const count = blockCount(memory, lanes);
+      const blocks = instance.lendBlocks(count)(0, count);
+      return secrets.some((key) => {
+        const answer = verifyUnder(key, blocks);
+        return answer === MISMATCH ? false : must(answer) === 0;
+      });
+    });
+  }
+
+  /** Whether a text shows other settings than the wanted ones. It does not show its secret. */
+  needsRehash(text, options = {}) {
+    const wanted = complete(TEXT, options);
+    return this.#use((instance) => {
+      const inputs = new Inputs(instance, wanted, "", "");
+      must(inputs.refusal("params_refusal"));
+      const { request, keyid, data } = inputs;
+      const stored = instance.write(text, "the text");
+      return must(instance.call("phc_renewal", request, BigInt(wanted.length), ...keyid, ...data, ...stored)) !== 0;
+    });
+  }
+
+  /** What a text shows. */
+  parse(text) {
+    return this.#use((instance) => show(instance, instance.write(text, "the text")));
+  }
+
+  /** The hash alone, as a key, say. */
+  raw(password, salt, options = {}) {
+    const wanted = { ...complete(TAG, options), keyid: "" };
+    return this.#use((instance) => {
+      const inputs = new Inputs(instance, wanted, password, salt);
+      must(inputs.tagRefusal());
+      return instance.read(inputs.tag());
+    });
+  }
+
+  /** As `raw`, in turns of some milliseconds. */
+  async rawAsync(password, salt, { onProgress, signal, ...options } = {}) {
+    const wanted = { ...complete(TAG, options), keyid: "" };
+    signal?.throwIfAborted();
+    const instance = this.#take();
+    try {
+      const inputs = new Inputs(instance, wanted, password, salt);
+      must(inputs.tagRefusal());
+      const tag = instance.read(await inTurns(inputs.segments(), onProgress, signal));
+      this.#keep(instance);
+      return tag;
+    } finally {
+      instance.clear();
+    }
+  }
+
+  // Calls a function with an instance. One whose call failed is dropped, as it may have stopped anywhere.
+  #use(body) {
+    const instance = this.#take();
+    try {
+      const answer = body(instance);
+      this.#keep(instance);
+      return answer;
+    } finally {
+      instance.clear();
+    }
+  }
+
+  #take() {
+    const instance = this.#kept ?? new Instance(this.#module);
+    this.#kept = undefined;
+    return instance;
+  }
+
+  #keep(instance) {
+    if (instance.size <= KEPT_SIZE) this.#kept = instance;
+  }
+}
+
+// The inputs of a hash in the memory of an instance.
+class Inputs {
+  #instance;
+  #wanted;
+
+  constructor(instance, wanted, password, salt) {
+    const { memory, passes, lanes, version } = wanted;
+    const algorithm = ALGORITHMS.indexOf(wanted.algorithm);
+    for (const name of ["memory", "passes", "lanes", "version", "length"]) whole(wanted[name], name);
+    this.#instance = instance;
+    this.#wanted = wanted;
+    this.password = instance.write(password, "the password");
+    this.salt = instance.write(salt, "the salt");
+    this.secret = instance.write(wanted.secret, "the secret");
+    this.data = instance.write(wanted.data, "the data");
+    this.keyid = instance.write(wanted.keyid, "the key identifier");
+    // (no thread, no null pointer, no callback; an algorithm without a number is refused)
+    this.request = instance.writeNumbers(algorithm, version, memory, passes, lanes, lanes, 0, 0);
+  }
+
+  // The code of a function that says why these inputs are refused, or 0.
+  refusal(name, ...words) {
+    const lengths = [this.keyid[1], this.data[1], this.secret[1], this.#wanted.length, 1];
+    // (each of 64 bits; the last number says that the one before it is set)
+    const place = this.#instance.writeNumbers(...lengths.flatMap((it) => [Number(it), 0]));
+    return this.#instance.call(name, this.request, place, ...words);
+  }
+
+  tagRefusal() {
+    return this.refusal("tag_refusal", BigInt(this.#wanted.length), this.password[1], this.salt[1]);
+  }
+
+  // The place of the tag of inputs that are not refused.
+  tag() {
+    const { password, salt, secret, data } = this;
+    const count = blockCount(this.#wanted.memory, this.#wanted.lanes);
+    const blocks = this.#instance.lendBlocks(count)(0, count);
+    const out = this.#instance.lend(this.#wanted.length);
+    must(this.#instance.call("hash", this.request, ...password, ...salt, ...secret, ...data, ...blocks, ...out));
+    return out;
+  }
+
+  // The same, one segment after the other: yields the share that is done, and returns the place.
+  *segments() {
+    const { request, password, salt, secret, data } = this;
+    const { memory, passes, lanes, length } = this.#wanted;
+    const slice = blockCount(memory, lanes) / 4;
+    const segment = slice / lanes;
+    const blocks = this.#instance.lendBlocks(4 * slice);
+    const out = this.#instance.lend(length);
+    const place = this.#instance.lend(12);
+    const call = (...words) => must(this.#instance.call(...words));
+    call("begin", request, ...password, ...salt, ...secret, ...data, out[1], ...blocks(0, slice));
+    for (let step = 0; step < 4 * passes * lanes; step++) {
+      yield step / (4 * passes * lanes);
+      const lane = step % lanes;
+      const column = Math.floor(step / lanes) % 4;
+      this.#instance.setNumbers(place, Math.floor(step / lanes / 4), column, lane);
+      const parts = [
+        ...blocks(0, column * slice),
+        ...blocks(column * slice + lane * segment, segment),
+        ...blocks((column + 1) * slice, (3 - column) * slice),
+      ];
+      call("segment", request, ...secret, ...data, ...parts, place[0]);
+    }
+    call("finish", request, ...blocks(3 * slice, slice), ...out);
+    return out;
+  }
+
+  // The text of a tag.
+  text(tag) {
+    const text = this.#instance.lend(TEXT_SIZE);
+    must(this.#instance.call("phc_encode", this.request, ...this.keyid, ...this.data, ...this.salt, ...tag, ...text));
+    return this.#instance.readText(text);
+  }
+}
+
+// What the text at a place shows.
+function show(instance, text) {
+  const place = instance.lend(SHOWN_SIZE);
+  must(instance.call("phc_show", ...text, place[0]));
+  const [salt, hash, algorithm, version, memory, passes, lanes, keyid, data] = instance.readNumbers(place, 14).slice(5);
+  const bytes = instance.read(place);
+  const part = (at, length) => bytes.slice(at, at + length);
+  return {
+    ...{ algorithm: ALGORITHMS[algorithm], version, memory, passes, lanes },
+    ...{ salt: part(56, salt), hash: part(104, hash), keyid: part(168, keyid), data: part(176, data) },
+  };
+}
+
+// The blocks that a hash fills.
+function blockCount(memory, lanes) {
+  return 4 * lanes * Math.floor(memory / (4 * lanes));
+}
+
+// Options with their defaults. One that is undefined stays so and is refused, so that a secret that was not read is not left out.
+function complete(defaults, options) {
+  for (const name of Object.keys(options)) {
+    if (!Object.hasOwn(defaults, name)) throw new TypeError(`there is no option ${name}`);
+  }
+  return { ...defaults, ...options };
+}
+
+function whole(value, name) {
+  if (Number.isInteger(value) && value >= 0 && value < 2 ** 32) return value;
+  throw new RangeError(`${name} is no whole number from 0 to 4294967295`);
+}
+
+/** Makes it of a module, its bytes, a response with them, or a promise of one of these. */
+export async function open(source) {
+  let it = await source;
+  if (it instanceof Response) {
+    if (!it.ok) throw new Error(`${it.url} was not loaded: ${it.status}`);
+    it = await it.arrayBuffer();
+  }
+  return new Argon2(it instanceof WebAssembly.Module ? it : await WebAssembly.compile(it));
+}
+
+// Takes the steps of a generator, and returns its result.
+async function inTurns(steps, onProgress, signal) {
+  let begun = performance.now();
+  let step = steps.next();
+  while (!step.done) {
+    if (performance.now() - begun >= TURN) {
+      onProgress?.(step.value);
+      await pause();
+      signal?.throwIfAborted();
+      begun = performance.now();
+    }
+    step = steps.next();
+  }
+  onProgress?.(1);
+  return step.value;
+}
+
+// Lets others run. (A timer would wait for some milliseconds.)
+function pause() {
+  return new Promise((resolve) => {
+    const { port1, port2 } = new MessageChannel();
+    port1.onmessage = () => {
+      port1.close();
+      resolve();
+    };
+    port2.postMessage(undefined);
+  });
+}

@@ -1,0 +1,9 @@
+import { Worker } from "node:worker_threads";
+import { Calls } from "./calls.mjs";
+
+export function start() {
+  const worker = new Worker(new URL("./in-node-worker.mjs", import.meta.url));
+  const calls = new Calls(worker);
+  worker.on("message", (it) => calls.take(it)).on("error", (error) => calls.end(error)).unref();
+  return calls.functions();
+}

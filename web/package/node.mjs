@@ -1,0 +1,6 @@
+import { readFile } from "node:fs/promises";
+import { open } from "./argon2.mjs";
+
+export { Argon2, Argon2Error } from "./argon2.mjs";
+
+export const load = (source = readFile(new URL("./argon2.wasm", import.meta.url))) => open(source);

@@ -1,0 +1,265 @@
+// What is tried in node and in pages.
+
+import { TAGS, TEXTS } from "./cases.mjs";
+
+const BOUND = { memory: 1024, passes: 16, lanes: 64 };
+const SALT = "somesalt";
+// By an independent model: `password` and SALT with 256 KiB, two passes and one lane.
+const KNOWN = "9dfeb910e80bad0311fee20f9c0e2b12c17987b4cac90c2ef54d5b3021c68bfe";
+const OF_ABC = "$argon2id$v=19$m=8,t=1,p=1$c29tZXNhbHQ$LVJKYEkaeNsu5UCkG00QmN9KvYwrpueSxItaCk3nAjU";
+const OF_SECRET =
+  "$argon2id$v=19$m=64,t=2,p=2,keyid=a2V5IDE,data=c29tZSBkYXRh$c29tZXNhbHQ$8Fe4gWVJpEPVFv1y5tDY+m6T9i6mEDkkKNQBGzcGzH8";
+const OF_OLD_SECRET = "$argon2id$v=19$m=64,t=2,p=2$c29tZXNhbHQ$TIwxZJX/u/uyFcujYXWbkdtyc4CJCdkl+/isYF6xVj0";
+const SMALL = { memory: 8, passes: 1 };
+// Long enough for turns.
+const LONG = { memory: 8192, passes: 8 };
+
+export const toHex = (bytes) => Array.from(bytes, (it) => it.toString(16).padStart(2, "0")).join("");
+const fromHex = (digits) => Uint8Array.from(digits.match(/../g) ?? [], (it) => parseInt(it, 16));
+
+export function check(holds, ...found) {
+  if (!holds) throw new Error(found.map((it) => (typeof it === "string" ? it : JSON.stringify(it))).join(" "));
+}
+
+/** The error that a call throws, or whose promise is rejected by it. */
+export async function thrown(call) {
+  try {
+    await call();
+  } catch (error) {
+    return error;
+  }
+  throw new Error(`no error by ${call}`);
+}
+
+/** The instances of modules that a function makes. */
+async function instancesOf(body) {
+  const instances = [];
+  const { Instance } = WebAssembly;
+  WebAssembly.Instance = function (...words) {
+    instances.push(new Instance(...words));
+    return instances.at(-1);
+  };
+  try {
+    await body();
+  } finally {
+    WebAssembly.Instance = Instance;
+  }
+  return instances;
+}
+
+/** Whether the memory of an instance is clear but for its constants. */
+function isClear({ exports }) {
+  const bytes = new Uint8Array(exports.memory.buffer);
+  for (let at = 0; at < bytes.length; at = at === 65535 ? Number(exports.__heap_base.value) : at + 1) {
+    if (bytes[at] !== 0) return false;
+  }
+  return true;
+}
+
+const TESTS = {
+  "200 tags of the model, at once and in turns": async ({ argon2 }) => {
+    for (const [algorithm, version, memory, passes, lanes, ...digits] of TAGS) {
+      const [password, salt, secret, data, tag] = digits.map(fromHex);
+      const options = { algorithm, version, memory, passes, lanes, length: tag.length, secret, data };
+      check(toHex(argon2.raw(password, salt, options)) === digits[4], digits);
+      check(toHex(await argon2.rawAsync(password, salt, options)) === digits[4], digits);
+    }
+    check(TAGS.length === 200);
+  },
+
+  "300 texts of the model, verified": async ({ argon2 }) => {
+    for (const [password, secret, text, wanted] of TEXTS) {
+      const verify = () => argon2.verify(text, fromHex(password), { secret: fromHex(secret), bound: BOUND });
+      check(wanted === (typeof wanted === "string" ? (await thrown(verify)).code : verify()), text, wanted);
+    }
+    check(TEXTS.length === 300);
+  },
+
+  "the same texts, read and made": ({ argon2 }) => {
+    const accepted = TEXTS.filter(([, , text, wanted]) => wanted === true && text.includes("$v="));
+    for (const [digits, secret, text] of accepted) {
+      const password = fromHex(digits);
+      const { hash, salt, ...shown } = argon2.parse(text);
+      const options = { ...shown, length: hash.length, secret: fromHex(secret) };
+      check(argon2.hash(password, { ...options, salt }) === text, text);
+      check(!argon2.needsRehash(text, options) && argon2.needsRehash(text, { ...options, passes: shown.passes + 1 }), text);
+      check(argon2.verify(text, password, { secret: "a new secret", oldSecret: options.secret, bound: BOUND }), text);
+    }
+    check(accepted.length > 100, accepted.length);
+  },
+
+  "strings, secrets, and drawn salts": ({ argon2 }) => {
+    const secrets = { secret: "some secret", oldSecret: "old secret" };
+    check(argon2.verify(OF_SECRET, "pass wörd", secrets) && argon2.verify(OF_OLD_SECRET, "pass wörd", secrets));
+    check(!argon2.verify(OF_SECRET, "pass word", secrets) && !argon2.verify(OF_SECRET, "pass wörd"));
+    check(!argon2.verify(OF_OLD_SECRET, "pass wörd", { secret: "some secret", oldSecret: undefined }));
+    const settings = { memory: 64, lanes: 2, secret: "some secret", keyid: "key 1", data: "some data" };
+    check(argon2.hash("pass wörd", { ...settings, salt: SALT }) === OF_SECRET);
+    check(argon2.hash("abc", { ...SMALL, salt: new DataView(new ArrayBuffer(8)) }).includes("$AAAAAAAAAAA$"));
+    const texts = [argon2.hash("abc"), argon2.hash("abc")];
+    for (const text of texts) {
+      check(/^\$argon2id\$v=19\$m=19456,t=2,p=1\$[A-Za-z0-9+/]{22}\$[A-Za-z0-9+/]{43}$/.test(text), text);
+      check(argon2.verify(text, new TextEncoder().encode("abc")) && !argon2.verify(text, "abd"), text);
+      check(!argon2.needsRehash(text), text);
+    }
+    check(texts[0] !== texts[1]);
+  },
+
+  "refusals by name": async ({ argon2, Argon2Error }) => {
+    const raw = (options, salt = SALT) => () => argon2.raw("x", salt, options);
+    const hash = (options) => () => argon2.hash("x", options);
+    const verify = (text, bound = {}) => () => argon2.verify(text, "abc", { bound });
+    for (const [wanted, ...calls] of [
+      ["SALT_TOO_SHORT", raw({}, "short"), hash({ salt: "short" })],
+      ["SALT_TOO_LONG", hash({ salt: new Uint8Array(49) })],
+      ["PASSES_TOO_FEW", raw({ passes: 0 }), hash({ passes: 0 }), () => argon2.needsRehash(OF_ABC, { passes: 0 })],
+      ["MEMORY_TOO_LITTLE", raw({ memory: 7 }), raw({ memory: 15, lanes: 2 }), hash({ memory: 0 })],
+      ["LANES_TOO_FEW", raw({ lanes: 0 })],
+      ["LANES_TOO_MANY", raw({ memory: 2 ** 28, lanes: 2 ** 24 })],
+      ["OUTPUT_TOO_SHORT", raw({ length: 3 }), hash({ length: 0 })],
+      ["OUTPUT_TOO_LONG", hash({ length: 65 })],
+      ["VERSION", raw({ version: 17 }), () => argon2.parse(OF_ABC.replace("19", "20"))],
+      ["ALGORITHM", raw({ algorithm: "argon2" }), hash({ algorithm: "toString" }), () => argon2.parse("$argon2x$m=8,t=1,p=1")],
+      ["DATA_TOO_LONG", hash({ data: new Uint8Array(33) })],
+      ["KEYID_TOO_LONG", hash({ keyid: new Uint8Array(9) })],
+      ["OUT_OF_MEMORY", raw({ memory: 2 ** 32 - 1 }), raw({ memory: 2 ** 22 }), raw({ ...SMALL, length: 2 ** 32 - 1 })],
+      ["TEXT_INVALID", verify("é"), verify(`${OF_ABC}\0`), verify(""), () => argon2.needsRehash("x")],
+      ["TEXT_INVALID", () => argon2.parse(`${OF_ABC}=`)],
+      ["TEXT_INCOMPLETE", verify(OF_ABC.slice(0, OF_ABC.lastIndexOf("$")))],
+      ["ABOVE_BOUND", verify(OF_ABC.replace("m=8", "m=262145")), verify(OF_ABC.replace("t=1", "t=9"))],
+      ["ABOVE_BOUND", verify(OF_ABC.replace("m=8,t=1,p=1", "m=136,t=1,p=17")), verify(OF_ABC, { memory: 7 })],
+      ["OUTPUT_OUT_OF_BOUND", verify(OF_ABC.slice(0, -36)), verify(OF_ABC, { maxLength: 31 })],
+    ]) {
+      for (const call of calls) {
+        const error = await thrown(call);
+        check(error instanceof Argon2Error && error.code === wanted && error.message, wanted, String(call), String(error));
+      }
+    }
+  },
+
+  "values of another kind": async ({ argon2 }) => {
+    for (const [wanted, call] of [
+      [TypeError, () => argon2.hash(undefined)],
+      [TypeError, () => argon2.hash(7)],
+      [TypeError, () => argon2.hash("x", { secret: undefined })],
+      [TypeError, () => argon2.hash("x", { salt: null })],
+      [TypeError, () => argon2.hash("x", { keyid: null })],
+      [TypeError, () => argon2.hash("\ud800")],
+      [TypeError, () => argon2.hash("x", { parallelism: 1 })],
+      [TypeError, () => argon2.raw("x", SALT, { keyid: "key 1" })],
+      [TypeError, () => argon2.raw("x")],
+      [TypeError, () => argon2.rawAsync("x", SALT, { salt: "" })],
+      [TypeError, () => argon2.verify(null, "x")],
+      [TypeError, () => argon2.verify(OF_ABC, "x", { bound: { m: 8 } })],
+      [TypeError, () => argon2.parse()],
+      [RangeError, () => argon2.hash("x", { memory: 2 ** 32 })],
+      [RangeError, () => argon2.hash("x", { passes: "2" })],
+      [RangeError, () => argon2.hash("x", { lanes: -1 })],
+      [RangeError, () => argon2.raw("x", SALT, { length: 1.5 })],
+      [RangeError, () => argon2.raw("x", SALT, { length: undefined })],
+      [RangeError, () => argon2.verify(OF_ABC, "x", { bound: { memory: NaN } })],
+    ]) {
+      const error = await thrown(call);
+      check(error instanceof wanted, String(call), String(error));
+    }
+  },
+
+  "progress, and others run meanwhile": async ({ argon2 }) => {
+    const shares = [];
+    let [turns, isDone] = [0, false];
+    const timer = setInterval(() => (turns += isDone ? 0 : 1));
+    const tag = await argon2.rawAsync("x", SALT, { ...LONG, onProgress: (share) => shares.push(share) });
+    isDone = true;
+    clearInterval(timer);
+    check(toHex(tag) === toHex(argon2.raw("x", SALT, LONG)));
+    check(shares.length > 2 && shares.at(-1) === 1 && turns > 0, shares, turns);
+    check(shares.every((it, at) => it > (shares[at - 1] ?? 0)), shares);
+  },
+
+  "a hash that is aborted": async ({ argon2 }) => {
+    const reason = new Error("enough");
+    const controller = new AbortController();
+    const onProgress = () => controller.abort(reason);
+    const instances = await instancesOf(async () => {
+      const error = await thrown(() => argon2.rawAsync("x", SALT, { ...LONG, onProgress, signal: controller.signal }));
+      check(error === reason, String(error));
+      check((await thrown(() => argon2.rawAsync("x", SALT, { signal: AbortSignal.abort() }))).name === "AbortError");
+      const failing = () => argon2.rawAsync("x", SALT, { ...LONG, onProgress: () => check(false, "thrown") });
+      check((await thrown(failing)).message === "thrown");
+      check(toHex(argon2.raw("password", SALT, { memory: 256 })) === KNOWN);
+    });
+    check(instances.length > 1 && instances.every(isClear), instances.length);
+  },
+
+  "eight at once, and one inside of another": async ({ argon2 }) => {
+    const passwords = ["1", "2", "3", "4", "5", "6", "7", "8"];
+    const tags = await Promise.all(passwords.map((it) => argon2.rawAsync(it, SALT, LONG)));
+    passwords.forEach((it, at) => check(toHex(tags[at]) === toHex(argon2.raw(it, SALT, LONG)), it));
+    let inner;
+    const onProgress = () => (inner ??= argon2.raw("password", SALT, { memory: 256 }));
+    check(toHex(await argon2.rawAsync("1", SALT, { ...LONG, onProgress })) === toHex(tags[0]));
+    check(toHex(inner) === KNOWN, inner);
+  },
+
+  "memory is cleared, and dropped if it is large": async ({ Argon2 }, module) => {
+    let fresh;
+    const few = await instancesOf(() => {
+      fresh = new Argon2(module);
+      check(toHex(fresh.raw("password", SALT, { memory: 256 })) === KNOWN);
+      check(fresh.verify(fresh.hash("x", { ...SMALL, secret: "y" }), "x", { secret: "z", oldSecret: "y" }));
+      fresh.parse(OF_SECRET);
+    });
+    check(few.length === 1 && few.every(isClear), few.length);
+    const refused = await instancesOf(() => thrown(() => fresh.raw("password", "short")).then(() => fresh.parse(OF_ABC)));
+    check(refused.length === 1 && isClear(few[0]), refused.length);
+    const large = await instancesOf(() => {
+      fresh.raw("x", SALT, { memory: 2 ** 17 + 1024, passes: 1 });
+      fresh.parse(OF_ABC);
+    });
+    check(large.length === 1 && isClear(large[0]) && isClear(refused[0]), large.length);
+  },
+
+  "memory that is refused": async ({ Argon2, Argon2Error }, module) => {
+    const { grow } = WebAssembly.Memory.prototype;
+    const fresh = new Argon2(module);
+    WebAssembly.Memory.prototype.grow = () => {
+      throw new RangeError("refused");
+    };
+    try {
+      for (const call of [() => fresh.raw("x", SALT), () => fresh.rawAsync("x", SALT), () => fresh.hash("x")]) {
+        const error = await thrown(call);
+        check(error instanceof Argon2Error && error.code === "OUT_OF_MEMORY", String(error));
+      }
+    } finally {
+      WebAssembly.Memory.prototype.grow = grow;
+    }
+    check(toHex(fresh.raw("password", SALT, { memory: 256 })) === KNOWN);
+  },
+
+  "modules, bytes, responses and promises are loaded": async ({ load }, module, bytes) => {
+    for (const source of [module, bytes, bytes.buffer, new Response(bytes), Promise.resolve(module)]) {
+      check(toHex((await load(source)).raw("password", SALT, { memory: 256 })) === KNOWN);
+    }
+    check((await thrown(() => load(new Response("", { status: 404 })))).message.endsWith(" was not loaded: 404"));
+    check((await thrown(() => load(new Uint8Array(8)))) instanceof WebAssembly.CompileError);
+  },
+};
+
+/**
+ * Tries what an entry of the package exports on a module of these bytes, and further tests. Shows a line for each that fails, and
+ * returns how many passed and failed.
+ */
+export async function runTests(entry, bytes, show, tests = {}) {
+  const module = await WebAssembly.compile(bytes);
+  let [passed, failed] = [0, 0];
+  for (const [name, test] of Object.entries({ ...TESTS, ...tests })) {
+    try {
+      await test({ ...entry, argon2: await entry.load(module) }, module, bytes);
+      passed++;
+    } catch (error) {
+      show(`${name}: FAILED: ${error.stack}`);
+      failed++;
+    }
+  }
+  return [passed, failed];
+}
