@@ -5,7 +5,7 @@ import { TAGS, TEXTS } from "./cases.mjs";
 const BOUND = { memory: 1024, passes: 16, lanes: 64 };
 const SALT = "somesalt";
 // By an independent model: `password` and SALT with 256 KiB, two passes and one lane.
-const KNOWN = "9dfeb910e80bad0311fee20f9c0e2b12c17987b4cac90c2ef54d5b3021c68bfe";
+export const KNOWN = "9dfeb910e80bad0311fee20f9c0e2b12c17987b4cac90c2ef54d5b3021c68bfe";
 const OF_ABC = "$argon2id$v=19$m=8,t=1,p=1$c29tZXNhbHQ$LVJKYEkaeNsu5UCkG00QmN9KvYwrpueSxItaCk3nAjU";
 const OF_SECRET =
   "$argon2id$v=19$m=64,t=2,p=2,keyid=a2V5IDE,data=c29tZSBkYXRh$c29tZXNhbHQ$8Fe4gWVJpEPVFv1y5tDY+m6T9i6mEDkkKNQBGzcGzH8";
@@ -244,6 +244,22 @@ const TESTS = {
     check((await thrown(() => load(new Uint8Array(8)))) instanceof WebAssembly.CompileError);
   },
 };
+
+/** Tries the functions of a worker. */
+export async function tryWorker(start) {
+  const worker = start();
+  const text = await worker.hash("x", { memory: 64 });
+  check((await worker.verify(text, "x")) && !(await worker.verify(text, "y")) && (await worker.needsRehash(text)), text);
+  check((await worker.parse(text)).memory === 64);
+  const tags = await Promise.all([4, 5, 6].map((length) => worker.raw("x", "somesalt", { length })));
+  check(tags.map((it) => it.length).join() === "4,5,6", tags);
+  const errors = [await thrown(() => worker.verify("x", "x")), await thrown(() => worker.hash("x", { m: 1 }))];
+  check(errors[0].name === "Argon2Error" && errors[0].code === "TEXT_INVALID" && errors[1] instanceof TypeError, errors.map(String));
+  const waiting = worker.raw("x", "somesalt", { passes: 1e6 });
+  worker.terminate();
+  check((await thrown(() => waiting)).message === "the worker was terminated");
+  check((await thrown(() => worker.parse(text))).message === "the worker was terminated");
+}
 
 /**
  * Tries what an entry of the package exports on a module of these bytes, and further tests. Shows a line for each that fails, and
