@@ -2,9 +2,10 @@
 
 import { readFileSync } from "node:fs";
 import { pathToFileURL } from "node:url";
-import { check, KNOWN, runTests, thrown, toHex, tryWorker } from "./tests.mjs";
+import { check, KNOWN, MODULES, runTests, thrown, toHex, tryWorker } from "./tests.mjs";
 
 const folder = pathToFileURL(`${process.argv[2]}/`);
+const readModule = (name) => new Uint8Array(readFileSync(new URL(name, folder)));
 
 const TESTS = {
   "the entries have the module of the package": async () => {
@@ -14,6 +15,25 @@ const TESTS = {
       check(toHex(argon2.raw("password", "somesalt", { memory: 256 })) === KNOWN, name);
       check((await thrown(() => argon2.raw("x", ""))) instanceof Argon2Error, name);
     }
+  },
+
+  "node takes SIMD if it has that": async () => {
+    const { load } = await import(new URL("node.mjs", folder));
+    const { compile, validate } = WebAssembly;
+    const taken = [];
+    WebAssembly.compile = (it) => {
+      taken.push(it.length);
+      return compile(it);
+    };
+    try {
+      await load();
+      WebAssembly.validate = () => false;
+      await load();
+    } finally {
+      Object.assign(WebAssembly, { compile, validate });
+    }
+    const [plain, simd] = MODULES.map((name) => readModule(name).length);
+    check(taken.join() === `${simd},${plain}` && simd !== plain, taken);
   },
 
   "the codes of argon2_phc.h": async () => {
@@ -36,7 +56,6 @@ const TESTS = {
 };
 
 const entry = await import(new URL("node.mjs", folder));
-const bytes = new Uint8Array(readFileSync(new URL("argon2.wasm", folder)));
-const [passed, failed] = await runTests(entry, bytes, console.log, TESTS);
-console.log(`${passed} passed, ${failed} failed`);
-process.exitCode = failed ? 1 : 0;
+const counts = await runTests(entry, MODULES.map(readModule), console.log, TESTS);
+console.log(`${counts.passed} passed, ${counts.failed} failed`);
+process.exitCode = counts.failed ? 1 : 0;

@@ -3,7 +3,7 @@
 import * as entry from "./argon2-proved/page.mjs";
 import { start } from "./argon2-proved/page-worker.mjs";
 import { makeKey } from "./key.mjs";
-import { check, KNOWN, runTests, toHex, tryWorker } from "./tests.mjs";
+import { check, KNOWN, MODULES, runTests, toHex, tryWorker } from "./tests.mjs";
 
 const TESTS = {
   "the entries have the module of the package": async () => {
@@ -22,11 +22,14 @@ const TESTS = {
   },
 };
 
+async function readModule(name) {
+  return new Uint8Array(await (await fetch(`./argon2-proved/${name}`)).arrayBuffer());
+}
+
 const lines = [];
 try {
-  const bytes = new Uint8Array(await (await fetch("./argon2-proved/argon2.wasm")).arrayBuffer());
-  const [passed, failed] = await runTests(entry, bytes, (line) => lines.push(line), TESTS);
-  lines.push(`${passed} passed, ${failed} failed`);
+  const counts = await runTests(entry, await Promise.all(MODULES.map(readModule)), (line) => lines.push(line), TESTS);
+  lines.push(`${counts.passed} passed, ${counts.failed} failed`);
 } catch (error) {
   lines.push(String(error), "0 passed, 1 failed");
 }

@@ -2,6 +2,8 @@
 
 import { TAGS, TEXTS } from "./cases.mjs";
 
+export const MODULES = ["argon2.wasm", "argon2-simd.wasm"];
+
 const BOUND = { memory: 1024, passes: 16, lanes: 64 };
 const SALT = "somesalt";
 // By an independent model: `password` and SALT with 256 KiB, two passes and one lane.
@@ -261,21 +263,26 @@ export async function tryWorker(start) {
   check((await thrown(() => worker.parse(text))).message === "the worker was terminated");
 }
 
-/**
- * Tries what an entry of the package exports on a module of these bytes, and further tests. Shows a line for each that fails, and
- * returns how many passed and failed.
- */
-export async function runTests(entry, bytes, show, tests = {}) {
-  const module = await WebAssembly.compile(bytes);
-  let [passed, failed] = [0, 0];
-  for (const [name, test] of Object.entries({ ...TESTS, ...tests })) {
+/** Tries what an entry of the package exports on each of its modules, whose bytes are given, and then further tests. */
+export async function runTests(entry, modules, show, further) {
+  const counts = { passed: 0, failed: 0 };
+  for (const bytes of modules) {
+    const module = await WebAssembly.compile(bytes);
+    await tryAll(TESTS, async (test) => test({ ...entry, argon2: await entry.load(module) }, module, bytes), show, counts);
+  }
+  await tryAll(further, (test) => test(), show, counts);
+  return counts;
+}
+
+// Counts tests that a function tries, and shows a line for each that fails.
+async function tryAll(tests, run, show, counts) {
+  for (const [name, test] of Object.entries(tests)) {
     try {
-      await test({ ...entry, argon2: await entry.load(module) }, module, bytes);
-      passed++;
+      await run(test);
+      counts.passed++;
     } catch (error) {
       show(`${name}: FAILED: ${error.stack}`);
-      failed++;
+      counts.failed++;
     }
   }
-  return [passed, failed];
 }
