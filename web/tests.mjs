@@ -125,6 +125,8 @@ const TESTS = {
       ["DATA_TOO_LONG", hash({ data: new Uint8Array(33) })],
       ["KEYID_TOO_LONG", hash({ keyid: new Uint8Array(9) })],
       ["OUT_OF_MEMORY", raw({ memory: 2 ** 32 - 1 }), raw({ memory: 2 ** 22 }), raw({ ...SMALL, length: 2 ** 32 - 1 })],
+      // (it would fit into 4 GiB, but not without the last page)
+      ["OUT_OF_MEMORY", raw({ ...SMALL, length: 2 ** 32 - 2 ** 17 })],
       ["TEXT_INVALID", verify("é"), verify(`${OF_ABC}\0`), verify(""), () => argon2.needsRehash("x")],
       ["TEXT_INVALID", () => argon2.parse(`${OF_ABC}=`)],
       ["TEXT_INCOMPLETE", verify(OF_ABC.slice(0, OF_ABC.lastIndexOf("$")))],
@@ -255,15 +257,16 @@ export async function tryWorker(start) {
   check((await worker.parse(text)).memory === 64);
   const tags = await Promise.all([4, 5, 6].map((length) => worker.raw("x", "somesalt", { length })));
   check(tags.map((it) => it.length).join() === "4,5,6", tags);
-  const errors = [await thrown(() => worker.verify("x", "x")), await thrown(() => worker.hash("x", { m: 1 }))];
-  check(errors[0].name === "Argon2Error" && errors[0].code === "TEXT_INVALID" && errors[1] instanceof TypeError, errors.map(String));
+  const [refused, wrong] = [await thrown(() => worker.verify("x", "x")), await thrown(() => worker.hash("x", { m: 1 }))];
+  check(refused.name === "Argon2Error" && refused.code === "TEXT_INVALID", String(refused));
+  check(wrong instanceof TypeError, String(wrong));
   const waiting = worker.raw("x", "somesalt", { passes: 1e6 });
   worker.terminate();
   check((await thrown(() => waiting)).message === "the worker was terminated");
   check((await thrown(() => worker.parse(text))).message === "the worker was terminated");
 }
 
-/** Tries what an entry of the package exports on each of its modules, whose bytes are given, and then further tests. */
+/** Tries what an entry of the package exports on modules, whose bytes are given, and then further tests. */
 export async function runTests(entry, modules, show, further) {
   const counts = { passed: 0, failed: 0 };
   for (const bytes of modules) {
