@@ -144,7 +144,7 @@ class Function:
         self.is_promise = bool(found[2] and not found[3] and re.search(r"^ *ensures ", head, re.MULTILINE))
 
     def has_path(self, path):
-        """Whether a path, as a check prints it, is this function's. A type's function has the type's module, wherever it stands."""
+        """Whether a path, as a check prints it, is this function's. That of a type's function has the type's module."""
         *modules, last = path.split("::")
         if not self.type:
             return path == f"{self.module}::{self.name}"
