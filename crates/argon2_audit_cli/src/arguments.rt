@@ -3,10 +3,41 @@
 use argon2::{Algorithm, KeyId};
 use argon2_audit::run::PROGRAM;
 use argon2_audit::{Field, Form, Limits, Options};
-use argon2_commands::{VERSION, invalid};
-use clap::{ArgMatches, Command, Error, arg};
+use argon2_commands::{Argument, CommandLine, Matches, Refusal, argument};
 use std::alloc::{AllocError, Global};
 use std::fmt::InlineText;
+use std::io::Write;
+
+const COMMAND_LINE: CommandLine<'static> = CommandLine {
+    program: PROGRAM,
+    about: "Says which stored texts of passwords are below a policy",
+    long_about: ABOUT,
+    notes: NOTES,
+    usage: None,
+    arguments: &ARGUMENTS,
+};
+
+const ARGUMENTS: [Argument<'static>; 15] = [
+    argument!(--"min-m" <M> "The least memory, in blocks of 1024 bytes", default: Some("19456")),
+    argument!(--"min-t" <T> "The least number of passes", default: Some("2")),
+    argument!(--"min-p" <P> "The least number of lanes", default: Some("1")),
+    argument!(--"min-salt" <N> "The fewest bytes of a salt", default: Some("16")),
+    argument!(--"min-hash" <N> "The fewest bytes of a hash", default: Some("32")),
+    argument!(--"min-version" <V> "The least version, 16 or 19 [default: any]"),
+    argument!(--"require" <ALGORITHM>
+        "The one sound algorithm, argon2d, argon2i or argon2id [default: any]"),
+    argument!(--"keyid" <ID>
+        "The one sound key identifier, in Base64 as texts have it [default: any]"),
+    argument!(--"allow-other" "Other schemes, locked and blank lines and comments count as sound"),
+    argument!(--"field" <N>
+        "The text is field N, and a line without it is not sound [default: the second, or the line]"),
+    argument!(--"separator" <C> "The one byte between two fields", default: Some(":")),
+    argument!(--"json" "Write one JSON object: findings by line, counts, schemes, table",
+        excluded: Some("quiet")),
+    argument!(--"summary" "Write no remarks, only counts", excluded: Some("quiet")),
+    argument!(--"quiet" "Write nothing; the status says all"),
+    argument!(FILE.. 0 "Files with a text a line, `-` for standard input"),
+];
 
 const ABOUT: &str = "\
 Says which stored texts of passwords are below a policy.
@@ -38,196 +69,119 @@ wrong, and 3 if a file, reading, writing or a request for memory fails, which st
 /// Reads the options, of which the last counts if one is given twice, and the names of files, `-` if there are none.
 ///
 /// # Errors
-/// The page that the words ask for, what is wrong with them, and out of memory.
-pub fn parsed<'a>(alloc: Global, words: &'a [String]) -> Result<(Options, Vec<&'a str>), Error> {
-    let mut command = command(alloc)?;
-    let matches = command.try_get_matches_from_mut(words)?;
-    let separator = matches.get_str("separator").unwrap_or("");
-    let [byte] = separator.as_bytes() else {
-        let why = "it is not one byte";
-        return Err(invalid(&mut command, alloc, "--separator <C>", separator, why)?);
+/// The exit status, once a page is written or `errors` says why.
+pub fn parsed<'a, W: Write, E: Write>(
+    alloc: Global,
+    words: &'a [String],
+    output: &mut W,
+    errors: &mut E,
+) -> Result<(Options, Vec<&'a str>), u8> {
+    let matches = COMMAND_LINE.parse(alloc, words, output, errors)?;
+    match read(alloc, &matches) {
+        Ok(read) => Ok(read),
+        Err(refusal) => Err(COMMAND_LINE.refuse(alloc, &refusal, errors)),
+    }
+}
+
+// What the words ask for, and the names of files.
+fn read<'a>(alloc: Global, matches: &Matches<'a>) -> Result<(Options, Vec<&'a str>), Refusal> {
+    let [separator] = matches.get("separator").unwrap_or("").as_bytes() else {
+        return Err(matches.invalid(alloc, "separator", "it is not one byte"));
     };
-    let names = matches.get_strs("FILE").unwrap_or(&["-"]).to_vec(alloc)?;
     let options = Options {
-        limits: limits(alloc, &mut command, &matches)?,
+        limits: limits(alloc, matches)?,
         field: Field {
-            before: before(alloc, &mut command, &matches)?,
-            separator: *byte,
+            before: before(alloc, matches)?,
+            separator: *separator,
         },
-        form: form(&matches),
-        has_remarks: !matches.get_flag("summary"),
+        form: form(matches),
+        has_remarks: !matches.has("summary"),
     };
+    let mut names = matches.get_all(alloc, "FILE")?;
+    if names.is_empty() && names.push("-").is_err() {
+        return Err(Refusal::Memory(AllocError));
+    }
     Ok((options, names))
 }
 
 // The limits that options ask for.
-fn limits(
-    alloc: Global,
-    command: &mut Command<'_>,
-    matches: &ArgMatches<'_>,
-) -> Result<Limits, Error> {
+fn limits(alloc: Global, matches: &Matches<'_>) -> Result<Limits, Refusal> {
     Ok(Limits {
-        m_cost: number(alloc, command, matches, ("min-m", "--min-m <M>"))?,
-        t_cost: number(alloc, command, matches, ("min-t", "--min-t <T>"))?,
-        p_cost: number(alloc, command, matches, ("min-p", "--min-p <P>"))?,
-        salt_len: number(alloc, command, matches, ("min-salt", "--min-salt <N>"))?,
-        hash_len: number(alloc, command, matches, ("min-hash", "--min-hash <N>"))?,
-        version: version(alloc, command, matches)?,
-        algorithm: algorithm(alloc, command, matches)?,
-        key_id: key_id(alloc, command, matches)?,
-        allows_other: matches.get_flag("allow-other"),
+        m_cost: number(alloc, matches, "min-m")?,
+        t_cost: number(alloc, matches, "min-t")?,
+        p_cost: number(alloc, matches, "min-p")?,
+        salt_len: number(alloc, matches, "min-salt")?,
+        hash_len: number(alloc, matches, "min-hash")?,
+        version: version(alloc, matches)?,
+        algorithm: algorithm(alloc, matches)?,
+        key_id: key_id(alloc, matches)?,
+        allows_other: matches.has("allow-other"),
     })
 }
 
-// The number of an option of this name and form, 0 if it is not given. It is read here, and not by clap, which would
-// refuse a wrong value also if the option is given again.
-fn number(
-    alloc: Global,
-    command: &mut Command<'_>,
-    matches: &ArgMatches<'_>,
-    (name, form): (&str, &str),
-) -> Result<u32, Error> {
-    let value = matches.get_str(name).unwrap_or("0");
-    match value.parse::<u32>() {
+// The number of an option, 0 if it is not given. It is read here, and not by clap, which would refuse a wrong value also
+// if the option is given again.
+fn number(alloc: Global, matches: &Matches<'_>, name: &str) -> Result<u32, Refusal> {
+    match matches.get(name).unwrap_or("0").parse::<u32>() {
         Ok(number) => Ok(number),
         Err(why) => {
             let why = InlineText::<64>::of(why);
-            Err(invalid(command, alloc, form, value, why.as_str())?)
+            Err(matches.invalid(alloc, name, why.as_str()))
         }
     }
 }
 
 // The least version, 0 if there is none.
-fn version(
-    alloc: Global,
-    command: &mut Command<'_>,
-    matches: &ArgMatches<'_>,
-) -> Result<u32, Error> {
-    match matches.get_str("min-version") {
+fn version(alloc: Global, matches: &Matches<'_>) -> Result<u32, Refusal> {
+    match matches.get("min-version") {
         None => Ok(0),
         Some("16") => Ok(16),
         Some("19") => Ok(19),
-        Some(value) => {
-            let why = "it is not 16 or 19";
-            Err(invalid(command, alloc, "--min-version <V>", value, why)?)
-        }
+        Some(_) => Err(matches.invalid(alloc, "min-version", "it is not 16 or 19")),
     }
 }
 
 // The one sound algorithm, if there is one.
-fn algorithm(
-    alloc: Global,
-    command: &mut Command<'_>,
-    matches: &ArgMatches<'_>,
-) -> Result<Option<Algorithm>, Error> {
-    let Some(name) = matches.get_str("require") else {
+fn algorithm(alloc: Global, matches: &Matches<'_>) -> Result<Option<Algorithm>, Refusal> {
+    let Some(name) = matches.get("require") else {
         return Ok(None);
     };
     match Algorithm::new(name) {
         Ok(algorithm) => Ok(Some(algorithm)),
         Err(_) => {
             let why = "it is not argon2d, argon2i or argon2id";
-            Err(invalid(command, alloc, "--require <ALGORITHM>", name, why)?)
+            Err(matches.invalid(alloc, "require", why))
         }
     }
 }
 
 // The one sound key identifier, if there is one.
-fn key_id(
-    alloc: Global,
-    command: &mut Command<'_>,
-    matches: &ArgMatches<'_>,
-) -> Result<Option<KeyId>, Error> {
-    let Some(text) = matches.get_str("keyid") else {
+fn key_id(alloc: Global, matches: &Matches<'_>) -> Result<Option<KeyId>, Refusal> {
+    let Some(text) = matches.get("keyid") else {
         return Ok(None);
     };
     match KeyId::from_b64(text) {
         Ok(key_id) => Ok(Some(key_id)),
-        Err(_) => {
-            let why = "it is not Base64 of at most 8 bytes";
-            Err(invalid(command, alloc, "--keyid <ID>", text, why)?)
-        }
+        Err(_) => Err(matches.invalid(alloc, "keyid", "it is not Base64 of at most 8 bytes")),
     }
 }
 
 // How many fields are before the one that is asked for, if one is.
-fn before(
-    alloc: Global,
-    command: &mut Command<'_>,
-    matches: &ArgMatches<'_>,
-) -> Result<Option<u32>, Error> {
-    let Some(value) = matches.get_str("field") else {
+fn before(alloc: Global, matches: &Matches<'_>) -> Result<Option<u32>, Refusal> {
+    if matches.get("field").is_none() {
         return Ok(None);
-    };
-    match number(alloc, command, matches, ("field", "--field <N>"))?.checked_sub(1) {
+    }
+    match number(alloc, matches, "field")?.checked_sub(1) {
         Some(before) => Ok(Some(before)),
-        None => {
-            let why = "0 is not in 1..=4294967295";
-            Err(invalid(command, alloc, "--field <N>", value, why)?)
-        }
+        None => Err(matches.invalid(alloc, "field", "0 is not in 1..=4294967295")),
     }
 }
 
 // What is to be written.
-fn form(matches: &ArgMatches<'_>) -> Form {
-    match (matches.get_flag("json"), matches.get_flag("quiet")) {
+fn form(matches: &Matches<'_>) -> Form {
+    match (matches.has("json"), matches.has("quiet")) {
         (true, _) => Form::Json,
         (_, true) => Form::Quiet,
         _ => Form::Lines,
     }
-}
-
-// The program's arguments.
-fn command<'a>(alloc: Global) -> Result<Command<'a>, AllocError> {
-    let command = Command::new(alloc, PROGRAM)
-        .version(VERSION)
-        .about("Says which stored texts of passwords are below a policy")
-        .long_about(ABOUT)
-        .after_help(NOTES)
-        .no_binary_name(true)
-        .args_override_self(true);
-    with_output(alloc, with_lines(alloc, with_least(alloc, command)?)?)
-}
-
-// With the least numbers that a text may show.
-fn with_least<'a>(alloc: Global, command: Command<'a>) -> Result<Command<'a>, AllocError> {
-    let memory = arg!(in alloc; --"min-m" <M> "The least memory, in blocks of 1024 bytes");
-    let command = command.arg(memory.default_value("19456"))?;
-    let passes = arg!(in alloc; --"min-t" <T> "The least number of passes");
-    let command = command.arg(passes.default_value("2"))?;
-    let lanes = arg!(in alloc; --"min-p" <P> "The least number of lanes");
-    let command = command.arg(lanes.default_value("1"))?;
-    let salt = arg!(in alloc; --"min-salt" <N> "The fewest bytes of a salt");
-    let command = command.arg(salt.default_value("16"))?;
-    let hash = arg!(in alloc; --"min-hash" <N> "The fewest bytes of a hash");
-    command.arg(hash.default_value("32"))
-}
-
-// With what else makes a line sound, and where its text is.
-fn with_lines<'a>(alloc: Global, command: Command<'a>) -> Result<Command<'a>, AllocError> {
-    let command = command.arg(arg!(in alloc; --"min-version" <V>
-        "The least version, 16 or 19 [default: any]"))?;
-    let command = command.arg(arg!(in alloc; --require <ALGORITHM>
-        "The one sound algorithm, argon2d, argon2i or argon2id [default: any]"))?;
-    let command = command.arg(arg!(in alloc; --keyid <ID>
-        "The one sound key identifier, in Base64 as texts have it [default: any]"))?;
-    let command = command.arg(arg!(in alloc; --"allow-other"
-        "Other schemes, locked and blank lines and comments count as sound"))?;
-    let field = arg!(in alloc; --field <N>
-        "The text is field N, and a line without it is not sound [default: the second, or the line]");
-    command.arg(field)
-}
-
-// With what divides a line, what is written, and what is read.
-fn with_output<'a>(alloc: Global, command: Command<'a>) -> Result<Command<'a>, AllocError> {
-    let separator = arg!(in alloc; --separator <C> "The one byte between two fields");
-    let command = command.arg(separator.default_value(":"))?;
-    let json =
-        arg!(in alloc; --json "Write one JSON object: findings by line, counts, schemes, table");
-    let command = command.arg(json.conflicts_with("quiet")?)?;
-    let summary = arg!(in alloc; --summary "Write no remarks, only counts");
-    let command = command.arg(summary.conflicts_with("quiet")?)?;
-    let command = command.arg(arg!(in alloc; --quiet "Write nothing; the status says all"))?;
-    let files = arg!(in alloc; [FILE] ... "Files with a text a line, `-` for standard input");
-    command.arg(files.num_args(0..))
 }

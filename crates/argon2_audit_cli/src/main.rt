@@ -2,7 +2,6 @@
 #![tactic(auto)]
 
 use argon2_audit::run::{PROGRAM, run};
-use argon2_commands::answer;
 use argon2_programs::{Failure, words};
 use inputs::Inputs;
 use std::alloc::AllocError;
@@ -21,13 +20,13 @@ fn main(rt: HostRuntime) -> ExitCode {
         Ok(words) => words,
         Err(status) => return ExitCode::from(status),
     };
-    let status = match arguments::parsed(rt.alloc(), words.as_slice()) {
+    let status = match arguments::parsed(rt.alloc(), words.as_slice(), &mut output, &mut errors) {
         Ok((options, names)) => {
             let mut inputs = Inputs::new(&rt, names.as_slice());
             let (alloc, shows) = (rt.alloc(), errors.is_terminal());
             run(alloc, options, &mut inputs, &mut output, &mut errors, shows)
         }
-        Err(error) => answer(PROGRAM, &error, &mut output, &mut errors),
+        Err(status) => status,
     };
     ExitCode::from(status)
 }

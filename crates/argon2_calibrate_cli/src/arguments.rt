@@ -5,10 +5,31 @@ ghost use Rattle.argon2_calibrate.specs.Choice.{ArePossible};
 
 use argon2_calibrate::Options;
 use argon2_calibrate::run::PROGRAM;
-use argon2_commands::{VERSION, invalid};
-use clap::{ArgMatches, Command, Error, arg, value_parser};
-use std::alloc::{AllocError, Global};
+use argon2_commands::{Argument, CommandLine, Kind, Matches, Refusal, argument};
+use std::alloc::Global;
+use std::io::Write;
 use std::num::saturating_f64_to_u64;
+
+const COMMAND_LINE: CommandLine<'static> = CommandLine {
+    program: PROGRAM,
+    about: "Finds the costs under which a hash takes a given time on this machine",
+    long_about: ABOUT,
+    notes: NOTES,
+    usage: None,
+    arguments: &ARGUMENTS,
+};
+
+const ARGUMENTS: [Argument<'static>; 5] = [
+    argument!(--"min-t" <N>
+        "The least passes [default: 2 below 64 MiB of memory, 1 from there on]",
+        kind: Kind::Number(1, 4_294_967_295)),
+    argument!(--"lanes" <N> "Lanes, with at least 8 blocks of 1024 bytes each",
+        kind: Kind::Number(1, 16_777_215), default: Some("1")),
+    argument!(--"json" "Write one JSON object: m, t, p, microseconds, busy"),
+    argument!(SECONDS "How long a hash may take, from 0.001 to 3600", kind: Kind::Float),
+    argument!(MEBIBYTES "The most memory of a hash, in MiB",
+        kind: Kind::Number(1, 4_194_303), default: Some("64")),
+];
 
 const ABOUT: &str = "\
 Finds the costs under which a hash by Argon2id takes a given time on this machine.
@@ -33,74 +54,48 @@ request for memory fails, which standard error says.";
 /// Reads the options, of which the last counts if one is given twice.
 ///
 /// # Errors
-/// The page that the words ask for, what is wrong with them, and out of memory.
-pub fn parsed(alloc: Global, words: &[String]) -> Result<Options, Error>
+/// The exit status, once a page is written or `errors` says why.
+pub fn parsed<W: Write, E: Write>(
+    alloc: Global,
+    words: &[String],
+    output: &mut W,
+    errors: &mut E,
+) -> Result<Options, u8>
     ensures { IfOk result ArePossible }
 {
-    let mut command = command(alloc)?;
-    let matches = command.try_get_matches_from_mut(words)?;
-    options(alloc, &mut command, &matches)
+    let matches = COMMAND_LINE.parse(alloc, words, output, errors)?;
+    match options(alloc, &matches) {
+        Ok(options) => Ok(options),
+        Err(refusal) => Err(COMMAND_LINE.refuse(alloc, &refusal, errors)),
+    }
 }
 
 // The options that the words ask for.
-fn options(
-    alloc: Global,
-    command: &mut Command<'_>,
-    matches: &ArgMatches<'_>,
-) -> Result<Options, Error>
+fn options(alloc: Global, matches: &Matches<'_>) -> Result<Options, Refusal>
     ensures { IfOk result ArePossible }
 {
-    let seconds = matches.get_one::<f64>("SECONDS").unwrap_or(0.0);
+    let seconds = matches.get("SECONDS").unwrap_or("");
+    let seconds = seconds.parse::<f64>().unwrap_or(0.0);
     if !(0.001 <= seconds && seconds <= 3600.0) {
-        let value = matches.get_str("SECONDS").unwrap_or("");
-        let why = "it is not in 0.001..=3600";
-        return Err(invalid(command, alloc, "<SECONDS>", value, why)?);
+        return Err(matches.invalid(alloc, "SECONDS", "it is not in 0.001..=3600"));
     }
-    let mebibytes = matches.get_one::<u32>("MEBIBYTES").unwrap_or(64);
     let options = Options {
         target: saturating_f64_to_u64(1e6 * seconds),
-        most: mebibytes.saturating_mul(1024),
-        lanes: matches.get_one::<u32>("lanes").unwrap_or(1),
-        min_t: matches.get_one::<u32>("min-t"),
-        json: matches.get_flag("json"),
+        most: number(matches, "MEBIBYTES")
+            .unwrap_or(64)
+            .saturating_mul(1024),
+        lanes: number(matches, "lanes").unwrap_or(1),
+        min_t: number(matches, "min-t"),
+        json: matches.has("json"),
     };
     if !options.are_possible() {
-        let value = matches.get_str("lanes").unwrap_or("");
         let why = "the memory has less than 8 blocks of 1024 bytes for each lane";
-        return Err(invalid(command, alloc, "--lanes <N>", value, why)?);
+        return Err(matches.invalid(alloc, "lanes", why));
     }
     Ok(options)
 }
 
-// The program's arguments.
-fn command<'a>(alloc: Global) -> Result<Command<'a>, AllocError> {
-    let command = Command::new(alloc, PROGRAM)
-        .version(VERSION)
-        .about("Finds the costs under which a hash takes a given time on this machine")
-        .long_about(ABOUT)
-        .after_help(NOTES)
-        .no_binary_name(true)
-        .args_override_self(true);
-    with_words(alloc, with_options(alloc, command)?)
-}
-
-// With the options.
-fn with_options<'a>(alloc: Global, command: Command<'a>) -> Result<Command<'a>, AllocError> {
-    let number = value_parser!(u32);
-    let passes = arg!(in alloc; --"min-t" <N>
-        "The least passes [default: 2 below 64 MiB of memory, 1 from there on]");
-    let command = command.arg(passes.value_parser(number.range(1..)))?;
-    let lanes = arg!(in alloc; --lanes <N> "Lanes, with at least 8 blocks of 1024 bytes each");
-    let lanes = lanes.value_parser(number.range(1..=16_777_215));
-    let command = command.arg(lanes.default_value("1"))?;
-    command.arg(arg!(in alloc; --json "Write one JSON object: m, t, p, microseconds, busy"))
-}
-
-// With the words behind them.
-fn with_words<'a>(alloc: Global, command: Command<'a>) -> Result<Command<'a>, AllocError> {
-    let seconds = arg!(in alloc; <SECONDS> "How long a hash may take, from 0.001 to 3600");
-    let command = command.arg(seconds.value_parser(value_parser!(f64)))?;
-    let most = arg!(in alloc; [MEBIBYTES] "The most memory of a hash, in MiB");
-    let most = most.value_parser(value_parser!(u32).range(1..=4_194_303));
-    command.arg(most.default_value("64"))
+// The number that an argument has.
+fn number(matches: &Matches<'_>, name: &str) -> Option<u32> {
+    matches.get(name)?.parse::<u32>().ok()
 }

@@ -3,7 +3,6 @@
 
 use argon2_calibrate::Machine;
 use argon2_calibrate::run::{PROGRAM, run};
-use argon2_commands::answer;
 use argon2_programs::words;
 use std::fs;
 use std::process::ExitCode;
@@ -17,12 +16,12 @@ fn main(rt: HostRuntime) -> ExitCode {
         Ok(words) => words,
         Err(status) => return ExitCode::from(status),
     };
-    let status = match arguments::parsed(alloc, words.as_slice()) {
+    let status = match arguments::parsed(alloc, words.as_slice(), &mut output, &mut errors) {
         Ok(options) => {
             let mut machine = Machine::new(alloc, &rt, available(&rt));
             run(alloc, options, &mut machine, &mut output, &mut errors)
         }
-        Err(error) => answer(PROGRAM, &error, &mut output, &mut errors),
+        Err(status) => status,
     };
     ExitCode::from(status)
 }

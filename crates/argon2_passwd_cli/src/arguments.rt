@@ -3,14 +3,41 @@
 use argon2::bound::Bound;
 use argon2::phc::read_decimal;
 use argon2::{KeyId, Params, ParamsBuilder};
-use argon2_commands::{VERSION, invalid};
+use argon2_commands::{Argument, CommandLine, Matches, Refusal, argument};
 use argon2_passwd::run::PROGRAM;
-use argon2_passwd::{Action, Command, Edit, Options, Task};
+use argon2_passwd::{Action, Command, EditTask, Options, Task};
 use argon2_store::View;
-use clap::error::ErrorKind;
-use clap::{ArgAction, ArgMatches, Error, arg};
 use std::alloc::{AllocError, Global};
+use std::io::Write;
 use strsim::osa_distance;
+
+const COMMAND_LINE: CommandLine<'static> = CommandLine {
+    program: PROGRAM,
+    about: "Makes texts of passwords, checks passwords by them, and keeps accounts in a file",
+    long_about: ABOUT,
+    notes: NOTES,
+    usage: Some(USAGE),
+    arguments: &ARGUMENTS,
+};
+
+const ARGUMENTS: [Argument<'static>; 9] = [
+    argument!(--"params" <COSTS> "What new texts are made under [default: m=19456,t=2,p=1]"),
+    argument!(--"bound" <COSTS>
+        "The most that a text may ask for [default: m=2097152,t=64,p=64, or the parameters]"),
+    argument!(--"secret-file" <PATH>
+        "The file's bytes, 1 to 4096 of them, are the secret of all texts"),
+    argument!(--"old-secret-file" <PATH>
+        "A text that the secret refuses is tried under these bytes, 0 to 4096, and renewed under the secret"),
+    argument!(--"keyid" <ID>
+        "New texts have `keyid=ID`, which names the secret: Base64 of at most 8 bytes"),
+    argument!(--"any-text"
+        "`import` takes texts of bcrypt, scrypt, PBKDF2, yescrypt, SHA-crypt, MD5-crypt, LDAP and Django too"),
+    argument!(--"skip"
+        "`import` passes over lines that may not be added, and says which and why"),
+    argument!(--"explain"
+        "`verify` and `change` say whether the name or the password is wrong"),
+    argument!(COMMAND.. 1 "A command with its text, or its file and name"),
+];
 
 const USAGE: &str = "\
 argon2-passwd [OPTIONS] hash
@@ -65,71 +92,79 @@ of another scheme or above the bound, or if --skip passed over a line. If it is 
 /// Reads the command with its options, of which the last counts if one is given twice.
 ///
 /// # Errors
-/// The page that the words ask for, what is wrong with them, and out of memory.
-pub fn parsed<'a>(alloc: Global, words: &'a [String]) -> Result<Command<'a>, Error> {
-    let mut command = command(alloc)?;
-    let matches = command.try_get_matches_from_mut(words)?;
-    let mut options = Options {
-        secret_file: matches.get_str("secret-file"),
-        old_secret_file: matches.get_str("old-secret-file"),
-        explain: matches.get_flag("explain"),
-        params: params_asked(alloc, &mut command, &matches)?,
-        bound: None,
-    };
-    if let Some(value) = matches.get_str("bound") {
-        options.bound = costs(value);
-        if options.bound.is_none() {
-            let why = "it is not m=M,t=T,p=P with numbers up to 4294967295";
-            return Err(invalid(&mut command, alloc, "--bound <COSTS>", value, why)?);
-        }
+/// The exit status, once a page is written or `errors` says why.
+pub fn parsed<'a, W: Write, E: Write>(
+    alloc: Global,
+    words: &'a [String],
+    output: &mut W,
+    errors: &mut E,
+) -> Result<Command<'a>, u8> {
+    let matches = COMMAND_LINE.parse(alloc, words, output, errors)?;
+    match command(alloc, &matches) {
+        Ok(command) => Ok(command),
+        Err(refusal) => Err(COMMAND_LINE.refuse(alloc, &refusal, errors)),
     }
-    let words = matches.get_strs("COMMAND").unwrap_or(&[]);
-    let any_text = matches.get_flag("any-text");
-    let import = if matches.get_flag("skip") {
+}
+
+// What the words ask for.
+fn command<'a>(alloc: Global, matches: &Matches<'a>) -> Result<Command<'a>, Refusal> {
+    let options = Options {
+        secret_file: matches.get("secret-file"),
+        old_secret_file: matches.get("old-secret-file"),
+        explain: matches.has("explain"),
+        params: params_asked(alloc, matches)?,
+        bound: bound_asked(alloc, matches)?,
+    };
+    let words = matches.get_all(alloc, "COMMAND")?;
+    let any_text = matches.has("any-text");
+    let import = if matches.has("skip") {
         Task::ImportOthers(any_text)
     } else {
         Task::Import(any_text)
     };
-    match action(import, words) {
+    match action(import, words.as_slice()) {
         Some(action) => Ok(Command { options, action }),
-        None => Err(unknown(&mut command, alloc, words)?),
+        None => Err(Refusal::Words(unknown(alloc, words.as_slice())?)),
     }
 }
 
 // What new texts are made under.
-fn params_asked(
-    alloc: Global,
-    command: &mut clap::Command<'_>,
-    matches: &ArgMatches<'_>,
-) -> Result<Params, Error> {
-    let params = match matches.get_str("params") {
+fn params_asked(alloc: Global, matches: &Matches<'_>) -> Result<Params, Refusal> {
+    let params = match matches.get("params") {
         None => Params::DEFAULT,
         Some(value) => match params(value) {
             Some(params) => params,
             None => {
                 let why = "it is not m=M,t=T,p=P with valid parameters";
-                return Err(invalid(command, alloc, "--params <COSTS>", value, why)?);
+                return Err(matches.invalid(alloc, "params", why));
             }
         },
     };
-    let Some(text) = matches.get_str("keyid") else {
+    let Some(text) = matches.get("keyid") else {
         return Ok(params);
     };
     match with_key_id(&params, text) {
         Some(params) => Ok(params),
+        None => Err(matches.invalid(alloc, "keyid", "it is not Base64 of at most 8 bytes")),
+    }
+}
+
+// The most that a text may ask for, if it is given.
+fn bound_asked(alloc: Global, matches: &Matches<'_>) -> Result<Option<Bound>, Refusal> {
+    let Some(value) = matches.get("bound") else {
+        return Ok(None);
+    };
+    match costs(value) {
+        Some(bound) => Ok(Some(bound)),
         None => {
-            let why = "it is not Base64 of at most 8 bytes";
-            Err(invalid(command, alloc, "--keyid <ID>", text, why)?)
+            let why = "it is not m=M,t=T,p=P with numbers up to 4294967295";
+            Err(matches.invalid(alloc, "bound", why))
         }
     }
 }
 
-// The error of words that are no command.
-fn unknown(
-    command: &mut clap::Command<'_>,
-    alloc: Global,
-    words: &[&str],
-) -> Result<Error, AllocError> {
+// What is wrong with words that are no command.
+fn unknown(alloc: Global, words: &[&str]) -> Result<String, AllocError> {
     let mut message = String::from_str(alloc, "no command has this form:")?;
     for word in words {
         message.push(' ')?;
@@ -140,7 +175,7 @@ fn unknown(
         message.push_str(similar)?;
         message.push('\'')?;
     }
-    command.error(ErrorKind::InvalidValue, message.as_str())
+    Ok(message)
 }
 
 // A command that one of the first two words may stand for, by at most one edit for three bytes, unless one is a command.
@@ -193,12 +228,12 @@ fn on_file<'a>(import: Task<'a>, word: &str) -> Option<Task<'a>> {
 fn on_name<'a>(word: &str, name: &'a str) -> Option<Task<'a>> {
     match word {
         "verify" => Some(Task::Verify(name)),
-        "register" => Some(Task::Edit(Edit::Register, name)),
-        "change" => Some(Task::Edit(Edit::Change, name)),
-        "set" => Some(Task::Edit(Edit::Set, name)),
-        "remove" => Some(Task::Edit(Edit::Remove, name)),
-        "lock" => Some(Task::Edit(Edit::Lock, name)),
-        "unlock" => Some(Task::Edit(Edit::Unlock, name)),
+        "register" => Some(Task::Edit(EditTask::Register, name)),
+        "change" => Some(Task::Edit(EditTask::Change, name)),
+        "set" => Some(Task::Edit(EditTask::Set, name)),
+        "remove" => Some(Task::Edit(EditTask::Remove, name)),
+        "lock" => Some(Task::Edit(EditTask::Lock, name)),
+        "unlock" => Some(Task::Edit(EditTask::Unlock, name)),
         _ => None,
     }
 }
@@ -229,42 +264,4 @@ fn costs(text: &str) -> Option<Bound> {
         t_cost: read_decimal(t.strip_prefix("t=")?)?,
         p_cost: read_decimal(p.strip_prefix("p=")?)?,
     })
-}
-
-// The program's arguments.
-fn command<'a>(alloc: Global) -> Result<clap::Command<'a>, AllocError> {
-    let command = clap::Command::new(alloc, PROGRAM)
-        .version(VERSION)
-        .about("Makes texts of passwords, checks passwords by them, and keeps accounts in a file")
-        .long_about(ABOUT)
-        .after_help(NOTES)
-        .override_usage(USAGE)
-        .no_binary_name(true)
-        .args_override_self(true);
-    with_arguments(alloc, command)
-}
-
-// With the options, those that have values first, and the command's words.
-fn with_arguments<'a>(
-    alloc: Global,
-    command: clap::Command<'a>,
-) -> Result<clap::Command<'a>, AllocError> {
-    let command = command.arg(arg!(in alloc; --params <COSTS>
-        "What new texts are made under [default: m=19456,t=2,p=1]"))?;
-    let command = command.arg(arg!(in alloc; --bound <COSTS>
-        "The most that a text may ask for [default: m=2097152,t=64,p=64, or the parameters]"))?;
-    let command = command.arg(arg!(in alloc; --"secret-file" <PATH>
-        "The file's bytes, 1 to 4096 of them, are the secret of all texts"))?;
-    let command = command.arg(arg!(in alloc; --"old-secret-file" <PATH>
-        "A text that the secret refuses is tried under these bytes, 0 to 4096, and renewed under the secret"))?;
-    let command = command.arg(arg!(in alloc; --keyid <ID>
-        "New texts have `keyid=ID`, which names the secret: Base64 of at most 8 bytes"))?;
-    let command = command.arg(arg!(in alloc; --"any-text"
-        "`import` takes texts of bcrypt, scrypt, PBKDF2, yescrypt, SHA-crypt, MD5-crypt, LDAP and Django too"))?;
-    let command = command.arg(arg!(in alloc; --skip
-        "`import` passes over lines that may not be added, and says which and why"))?;
-    let command = command.arg(arg!(in alloc; --explain
-        "`verify` and `change` say whether the name or the password is wrong"))?;
-    let words = arg!(in alloc; <COMMAND> "A command with its text, or its file and name");
-    command.arg(words.num_args(1..).action(ArgAction::Append))
 }

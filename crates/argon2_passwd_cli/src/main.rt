@@ -1,7 +1,6 @@
 //! `argon2-passwd`: makes texts of passwords, checks passwords by them, and keeps accounts in a file.
 #![tactic(auto)]
 
-use argon2_commands::answer;
 use argon2_passwd::run::{PROGRAM, run};
 use argon2_passwd::{Action, Command, Task};
 use argon2_programs::{Failure, words};
@@ -27,11 +26,10 @@ fn main(rt: HostRuntime) -> ExitCode {
         Ok(words) => words,
         Err(status) => return ExitCode::from(status),
     };
-    let mut command = match arguments::parsed(rt.alloc(), words.as_slice()) {
+    let parsed = arguments::parsed(rt.alloc(), words.as_slice(), &mut output, &mut errors);
+    let mut command = match parsed {
         Ok(command) => command,
-        Err(error) => {
-            return ExitCode::from(answer(PROGRAM, &error, &mut output, &mut errors));
-        }
+        Err(status) => return ExitCode::from(status),
     };
     let mut input = input.take(most_input(&command));
     let line = match text_line(rt.alloc(), &command, &mut input) {
