@@ -8,7 +8,7 @@ use Rattle.argon2_base.specs.declared.error.password_hash.Error.TheVariants.{Enc
 use Rattle.argon2.specs.declared.bound.Bound.{Bound}
 use Rattle.argon2.specs.declared.bound.BoundError.{BoundError}
 use Rattle.argon2.specs.declared.bound.BoundError.TheVariants.{TooExpensive, Refused}
-use Rattle.argon2.specs.StoredTexts.{Accepts, AcceptsBy, IsVerifyAnswer}
+use Rattle.argon2.specs.StoredTexts.{Accepts, AcceptsBy, IsVerifyAnswer, stored_of}
 use Rattle.argon2.specs.ListedParameters.{asked_of}
 use Rattle.argon2.specs.NamedTexts.{IsText}
 use Rattle.argon2.specs.Settings.{Parameters}
@@ -36,6 +36,12 @@ abbrev pub HashRefusal : Bound → Phc → BoundError → Type 0
 HashRefusal bound v TooExpensive =
     (parameters : Parameters) × (asked_of v ≡ Ok parameters) × (IsWithin bound parameters → ⊥)
 HashRefusal bound v (Refused e) = asked_of v ≡ Err (fault_of e)
+
+-- why nothing is read that a value is verified by: it is not admitted, or something is missing or unknown
+abbrev pub StoredRefusal : Bound → Phc → BoundError → Type 0
+StoredRefusal bound v TooExpensive = HashRefusal bound v TooExpensive
+StoredRefusal bound v (Refused e) =
+    HashRefusal bound v (Refused e) ⊎ (AsksWithin bound v × (stored_of v ≡ Err (fault_of e)))
 
 -- why a text is not: its value is not, or it is no value's
 abbrev pub BoundRefusal : Bound → List ℕ → BoundError → Type 0

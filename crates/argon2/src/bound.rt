@@ -2,16 +2,17 @@
 //!
 //! A text says which costs it is verified under, so whoever can write one can ask for up to 4 TiB.
 
-ghost use Rattle.std.specs.Prelude.{◌≡◌, ◌↔◌, Some, Err, IsTrue, IfOk, IfErr, MatchResult};
+ghost use Rattle.std.specs.Prelude.{◌≡◌, ◌↔◌, Some, Ok, Err, IsTrue, IfOk, IfErr, MatchResult};
 ghost use Rattle.argon2_base.specs.PhcFields.{phc_of};
 ghost use Rattle.argon2_base.specs.PhcText.{Phc, PhcText};
 ghost use Rattle.argon2.specs.Argon2.{parameters_of, secret_of};
-ghost use Rattle.argon2.specs.Bound.{AcceptsWithin, AsksBlocksWithin, AsksWithin, BoundRefusal, HashRefusal, IsBoundAnswer, IsWithin, VerifyRefusal, bound_error_text};
+ghost use Rattle.argon2.specs.Bound.{AcceptsWithin, AsksBlocksWithin, AsksWithin, BoundRefusal, HashRefusal, IsBoundAnswer, IsWithin, StoredRefusal, VerifyRefusal, bound_error_text};
+ghost use Rattle.argon2.specs.StoredTexts.{stored_of, stored_value};
 ghost use Rattle.argon2.specs.declared.bound.BoundError.TheVariants.{Refused, TooExpensive};
 
 use crate::context::Argon2;
 use crate::params::Params;
-use crate::password_hash::Error;
+use crate::password_hash::{Error, Settings, Stored};
 use argon2_base::phc::PasswordHash;
 use std::alloc::Global;
 use std::fmt;
@@ -71,6 +72,27 @@ impl Bound {
         Ok(params.block_count())
     }
 
+    /// What a stored hash that asks for no more than this bound is verified by. Allocates nothing.
+    ///
+    /// # Errors
+    /// The first of these that holds:
+    /// - those of [`Bound::admit_hash`].
+    /// - [`BoundError::Refused`] with the error of `Stored::try_from`: there is no salt or no hash, or the
+    ///   algorithm or the version does not exist.
+    pub fn admit_stored<'hash>(
+        &self,
+        hash: &'hash PasswordHash,
+    ) -> Result<Stored<'hash>, BoundError>
+        ensures within { IfOk result (λ stored. AsksWithin self.now (phc_of hash.now)) }
+        ensures shown { IfOk result (λ stored.
+            stored_of (phc_of hash.now) ≡ Ok (stored_value stored)) }
+        ensures refused { IfErr result (StoredRefusal self.now (phc_of hash.now)) }
+    {
+        let params = self.admitted_params(hash)?;
+        let settings = Settings::with_params(hash, params);
+        Ok(Stored::with_settings(hash, settings)?)
+    }
+
     /// Ok if the text asks for no more than this bound, and accepts the password under the
     /// secret of `argon2`. Memory is requested as by
     /// [`verify_password`](crate::password_hash::PasswordVerifier::verify_password).
@@ -96,8 +118,8 @@ impl Bound {
             → result ≡ Err TooExpensive }
     {
         let hash = PasswordHash::new(text)?;
-        let params = self.admitted_params(&hash)?;
-        argon2.verify_with_params(alloc, password, &hash, params)?;
+        let stored = self.admit_stored(&hash)?;
+        argon2.verify_stored(alloc, password, &stored)?;
         Ok(())
     }
 

@@ -1,35 +1,24 @@
 -- What calls on accounts do to the names of their file, and the words that their contracts share.
-use Rattle.std.specs.Prelude.{◌≡◌, ◌⊎◌, ℕ, ◌<◌, List, [], ◌∷◌, false, Option, Some, None, IsSomeAnd, MatchOption, Result, Ok, Err, IsTrue, length}
+use Rattle.std.specs.Prelude.{◌≡◌, ◌⊎◌, ℕ, ◌<◌, List, [], ◌∷◌, Option, Some, None, MatchOption, Result, Ok, Err, IsTrue, length}
 pub use Rattle.std.specs.Result.{result_map_both}
-use Rattle.argon2_base.specs.PhcText.{Phc, PhcText, phc_text}
-use Rattle.argon2_base.specs.declared.error.password_hash.Error.TheVariants.{EncodingInvalid, PasswordInvalid}
+pub use Rattle.argon2_base.specs.PhcText.{Phc, phc_text}
 pub use Rattle.argon2_base.specs.declared.phc.hash.PasswordHash.{PasswordHash}
-use Rattle.argon2.specs.NamedTexts.{IsText}
 pub use Rattle.argon2.specs.declared.login.answers.Accepted.{Accepted}
-pub use Rattle.argon2_policy.specs.Policy.{Admits, BoundError, Denial, IsFresh, Kept, LogsIn, MakingRefusal, Policy, Rehashed, Stream, Target, fill_bytes, max_len, phc_of, policy_value, stream_after}
-use Rattle.argon2_rows.specs.Locks.{is_locked}
+pub use Rattle.argon2_policy.specs.Policy.{AdmitsStored, ChangeRefusal, Denies, Error, HashingRefusal, IsFresh, Kept, LogsIn, Policy, Rehashed, SaysValue, Stream, Target, fill_bytes, max_len, phc_of, policy_value, stream_after, text_of}
 pub use Rattle.argon2_rows.specs.Names.{Texts, changed, get}
 pub use Rattle.argon2_rows.specs.Table.{Ghosts, IsHonest}
 pub use Rattle.argon2_store.specs.AccountFile.{HasNames, IsClosed, NamesStay, Serves, database_of}
-pub use Rattle.argon2_store.specs.Edits.{Edit, adding, replacing, setting, text_of}
+pub use Rattle.argon2_store.specs.Edits.{NamedEdit, adding, replacing, setting}
 pub use Rattle.argon2_store.specs.declared.account_file.AccountFile.{AccountFile}
-pub use Rattle.argon2_accounts.specs.Errors.{AccountError, FileError, is_account_refusal, of_file, of_policy}
-use Rattle.argon2_accounts.specs.Errors.{NameUnknown, OutOfMemory, Refused}
+pub use Rattle.argon2_accounts.specs.Errors.{AccountError, Denial, Denied, File, FileError, Refused, is_account_refusal}
 
--- the text accepts the password within the bound
-abbrev pub AdmitsText : Policy → List ℕ → List ℕ → Type 0
-AdmitsText policy password text = (v : Phc) × PhcText text v × Admits policy password v
-
--- the name has such a text
+-- what the name has accepts the password within the bound
 abbrev pub AdmitsName : Policy → Texts → List ℕ → List ℕ → Type 0
-AdmitsName policy names name password = IsSomeAnd (get names name) (AdmitsText policy password)
+AdmitsName policy names name password = AdmitsStored policy password (get names name)
 
--- why a password is refused for a name with this text or none
-abbrev pub TextRefusal : Policy → List ℕ → Option (List ℕ) → AccountError → Type 0
-TextRefusal policy password None e = e ≡ NameUnknown
-TextRefusal policy password (Some text) e = (IsTrue (is_locked text) × (e ≡ Refused PasswordInvalid))
-    ⊎ (((is_locked text ≡ false) × ¬ (IsText text) × (e ≡ Refused EncodingInvalid))
-    ⊎ ((v : Phc) × (why : BoundError) × PhcText text v × Denial policy password v why × (e ≡ of_policy why)))
+-- what the name has refuses the password
+abbrev pub IsDenied : Policy → List ℕ → Option (List ℕ) → AccountError → Type 0
+IsDenied policy password stored e = (why : Denial) × Denies policy password stored why × (e ≡ Denied why)
 
 -- the names after a login that left this value: its text is written exactly if it is a fresh one
 abbrev pub Renews : List ℕ → Accepted → Phc → Texts → Texts → Type 0
@@ -38,27 +27,27 @@ Renews name did w before after = after ≡ before
 
 -- the result is the answer of the file
 abbrev pub TellsOf : Result (Unit {0}) AccountError → Result (Unit {0}) FileError → Type 0
-TellsOf result done = result ≡ result_map_both (λ x. x) of_file done
+TellsOf result done = result ≡ result_map_both (λ x. x) File done
 
 -- so is that of a login whose fresh text was to be written, which is also accepted without it
 abbrev pub TellsOfRenewal : Result Accepted AccountError → Result (Unit {0}) FileError → Type 0
 TellsOfRenewal result (Ok _) = result ≡ Ok Rehashed
-TellsOfRenewal result (Err e) = (result ≡ Ok Kept) ⊎ (result ≡ Err (of_file e))
+TellsOfRenewal result (Err e) = (result ≡ Ok Kept) ⊎ (result ≡ Err (File e))
 
 module _ {S : Type 0} {g : Ghosts S} where
   -- A fresh text of the password is made, and the file makes this edit with it; without a text nothing is asked of the file.
-  abbrev pub Stores : (List ℕ → Edit) → Target → List ℕ → List ℕ → Result (Unit {0}) AccountError
+  abbrev pub Stores : (List ℕ → NamedEdit) → Target → List ℕ → List ℕ → Result (Unit {0}) AccountError
       → AccountFile S g → AccountFile S g → Type 0
   Stores edit target password drawn result old new =
-      ((why : BoundError) × MakingRefusal password why × (result ≡ Err (of_policy why)) × (new ≡ old))
+      ((why : Error) × HashingRefusal password why × (result ≡ Err (Denied (Refused why))) × (new ≡ old))
       ⊎ ((fresh : PasswordHash) × (done : Result (Unit {0}) FileError) × IsFresh target password drawn (phc_of fresh)
       × TellsOf result done × Serves (edit (text_of fresh) ∷ []) done old new)
 
-  -- A call that changes no name. If the file can't be read, its error is that of the result; any other is a refusal or of memory.
+  -- A call that changes no name. If the file can't be read, its error is that of the result; any other is a denial.
   abbrev pub OnlyReads : {X : Type 0} → Result X AccountError → AccountFile S g → AccountFile S g → Type 0
   OnlyReads (Ok x) old new = NamesStay None old new
   OnlyReads (Err why) old new = (error : Option FileError) × NamesStay error old new
-      × MatchOption error (IsTrue (is_account_refusal why) ⊎ (why ≡ OutOfMemory)) (λ e. why ≡ of_file e)
+      × MatchOption error ((denial : Denial) × (why ≡ Denied denial)) (λ e. why ≡ File e)
 
   -- The text of the name is read, and perhaps a fresh text of the password written in the place of the one that was read,
   -- of which the result tells.
@@ -82,10 +71,10 @@ GivesPassword policy name password (Err e) before after = after ≡ before
 -- a login, which says what it did with the text of the name
 abbrev pub LogsNameIn : Policy → List ℕ → List ℕ → List ℕ → Result Accepted AccountError → Texts → Texts → Type 0
 LogsNameIn policy name password drawn (Ok did) before after = AdmitsName policy before name password
-    × AdmitsName policy after name password × ((v w : Phc) × (get before name ≡ Some (phc_text v))
-    × LogsIn policy password drawn v (Ok did) w × Renews name did w before after)
+    × AdmitsName policy after name password × ((v w : Phc) × SaysValue (get before name) v
+    × LogsIn policy password drawn v did w × Renews name did w before after)
 LogsNameIn policy name password drawn (Err e) before after = (after ≡ before)
-    × (IsTrue (is_account_refusal e) → TextRefusal policy password (get before name) e)
+    × (IsTrue (is_account_refusal e) → IsDenied policy password (get before name) e)
 
 -- a change of a password: the name has a fresh text then; a refusal of the old password draws nothing
 abbrev pub ChangesName : {X : Type 0} → Policy → List ℕ → List ℕ → List ℕ → Stream → Stream → Result X AccountError
@@ -94,7 +83,7 @@ ChangesName policy name old password rng left (Ok _) before after = AdmitsName p
     × AdmitsName policy after name password × ((fresh : Phc) × IsFresh policy.target password (fill_bytes 16 rng).0 fresh
     × (after ≡ changed before name (Some (phc_text fresh))))
 ChangesName policy name old password rng left (Err e) before after = (after ≡ before)
-    × (IsTrue (is_account_refusal e) → (TextRefusal policy old (get before name) e × (left ≡ rng))
+    × (IsTrue (is_account_refusal e) → (IsDenied policy old (get before name) e × (left ≡ rng))
     ⊎ (AdmitsName policy before name old × (max_len < length password)))
 
 -- What the generator has left after a login: 16 bytes are drawn for a fresh text, and else nothing is. An error comes before

@@ -1,15 +1,12 @@
 //! Names with passwords in a file.
 
-ghost use Rattle.std.specs.Prelude.{◌≡◌, ◌⊎◌, IsErr, IsTrue, MatchResult, OnErr, Some};
-ghost use Rattle.argon2_accounts.specs.Accounts.{ChangesName, DrawsForLogin, GivesPassword, LogsNameIn, OnlyReads, RelatesNames, Replaces, Stores, TellsOf, TellsOfRenewal, TextRefusal};
-ghost use Rattle.argon2_accounts.specs.Accounts.{HasNames, IsClosed, IsHonest, Texts, adding, database_of, fill_bytes, get, is_account_refusal, policy_value, setting, text_of};
+ghost use Rattle.std.specs.Prelude.{◌≡◌, ◌⊎◌, IsErr, IsTrue, OnErr};
+ghost use Rattle.argon2_accounts.specs.Accounts.{ChangesName, DrawsForLogin, GivesPassword, LogsNameIn, RelatesNames, Replaces, Stores, TellsOf, TellsOfRenewal};
+ghost use Rattle.argon2_accounts.specs.Accounts.{IsClosed, IsHonest, adding, database_of, fill_bytes, policy_value, setting};
 
 use crate::error::AccountError;
-use argon2::PasswordHash;
 use argon2::login::{Accepted, LoggedIn};
-use argon2::password_hash::Error;
 use argon2_policy::Policy;
-use argon2_rows::text::behind_lock;
 use argon2_store::{AccountFile, FileError};
 use rand_core::Rng;
 use sqlite_trees::store::Store;
@@ -58,13 +55,7 @@ impl<'key, S: Store> Accounts<'key, S> {
     /// # Errors
     /// The first of these that holds:
     /// - those of [`AccountFile::text_of`]: the file has to be opened again, or can't be read.
-    /// - [`AccountError::NameUnknown`]: the name has no text. The password is hashed all the same, as
-    ///   [`Policy::hash_for_nobody`] does.
-    /// - [`AccountError::Refused`] with [`Error::PasswordInvalid`]: the name is locked. The password is
-    ///   hashed all the same.
-    /// - [`AccountError::Refused`] with [`Error::EncodingInvalid`]: the text is outside the grammar of PHC
-    ///   texts.
-    /// - those of [`Policy::log_in`].
+    /// - those of [`Policy::log_in`]: the name is unknown, or its text does not accept the password.
     /// - those of writing, as [`AccountFile::replace`]: the password is right, and writing the fresh text
     ///   has closed the file.
     pub fn log_in<R: Rng>(
@@ -82,12 +73,14 @@ impl<'key, S: Store> Accounts<'key, S> {
         ensures served { IsHonest S.Store (database_of self.new.file) → OnErr result
             (IsClosed self.new.file ⊎ (R.stream rng.new ≡ R.stream rng.old)) }
     {
-        let text = stored(&self.policy, &mut self.file, name, password)?;
-        let LoggedIn { accepted, fresh } = self.policy.log_in(rng, &text, password)?;
+        let text = self.file.text_of(name)?;
+        let stored = text.as_deref();
+        let LoggedIn { accepted, fresh } = self.policy.log_in(rng, stored, password)?;
         let Some(fresh) = fresh else {
             return Ok(accepted);
         };
-        let renewed = self.file.replace(name, text.text().as_str(), &fresh);
+        // (without a text no password is accepted)
+        let renewed = self.file.replace(name, stored.unwrap_or(""), &fresh);
         after_renewal(renewed, self.file.is_closed())
     }
 
@@ -114,9 +107,11 @@ impl<'key, S: Store> Accounts<'key, S> {
         ensures drawn { (R.stream rng.new ≡ (fill_bytes 16 (R.stream rng.old)).1)
             ⊎ (IsErr result × (R.stream rng.new ≡ R.stream rng.old)) }
     {
-        let text = stored(&self.policy, &mut self.file, name, old)?;
-        let fresh = self.policy.change_password(rng, &text, old, new)?;
-        let done = self.file.replace(name, text.text().as_str(), &fresh);
+        let text = self.file.text_of(name)?;
+        let stored = text.as_deref();
+        let fresh = self.policy.change_password(rng, stored, old, new)?;
+        // (without a text no password is accepted)
+        let done = self.file.replace(name, stored.unwrap_or(""), &fresh);
         done.map_err(AccountError::from)
     }
 
@@ -142,33 +137,6 @@ impl<'key, S: Store> Accounts<'key, S> {
     {
         let text = self.policy.hash_password(rng, new)?;
         self.file.set(name, &text).map_err(AccountError::from)
-    }
-}
-
-// The text of a name that is not locked. A password is hashed for a name that is refused.
-fn stored<S: Store>(
-    policy: &Policy<'_>,
-    file: &mut AccountFile<S>,
-    name: &str,
-    password: &[u8],
-) -> Result<PasswordHash, AccountError>
-    ensures reads { OnlyReads result file.old file.new }
-    ensures names { (names : Texts) → HasNames file.new names →
-        IsHonest S.Store (database_of file.new) → MatchResult result
-        (λ text. get names name.now ≡ Some (text_of text)) (λ e. IsTrue (is_account_refusal e) →
-        TextRefusal (policy_value policy.now) password.now (get names name.now) e) }
-{
-    let Some(text) = file.text_of(name)? else {
-        policy.hash_for_nobody(password);
-        return Err(AccountError::NameUnknown);
-    };
-    if behind_lock(text.as_str()).is_some() {
-        policy.hash_for_nobody(password);
-        return Err(AccountError::Refused(Error::PasswordInvalid));
-    }
-    match PasswordHash::new(text.as_str()) {
-        Ok(hash) => Ok(hash),
-        Err(error) => Err(AccountError::Refused(error)),
     }
 }
 

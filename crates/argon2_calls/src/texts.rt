@@ -325,6 +325,15 @@ fn is_of_bounds(call: &Call<'_, '_>, answer: &Answer) -> bool {
                 answer.said(call.bound(1).admit_hash(&value));
             }
         }
+        // `.. CONTEXT PASSWORD TEXT`, by what the text's value shows.
+        "Bound::admit_stored" => {
+            let (argon2, password) = (call.context(4), call.bytes(5));
+            if let Some(value) = answer.ok(PasswordHash::new(call.str(6)))
+                && let Some(stored) = answer.ok(call.bound(1).admit_stored(&value))
+            {
+                answer.done(argon2.verify_stored(answer.alloc, password, &stored));
+            }
+        }
         // `.. CONTEXT`: whether it allows the context's parameters.
         "Bound::allows" => answer.say(call.bound(1).allows(call.context(4).params())),
         // `.. CONTEXT PASSWORD TEXT`.
@@ -373,9 +382,8 @@ fn of_policy(call: &Call<'_, '_>, answer: &Answer) {
     if let Some(policy) = answer.ok(made) {
         match call.name {
             "Policy::new" => answer.say("Ok"),
-            // `.. SECRET GENERATOR PASSWORD TEXT`: a login, for which a text may also be one under the old secret. Without a
-            // text, with `::hash_for_nobody`.
-            name if name.starts_with("Policy::with_old_secret") => {
+            // `.. SECRET GENERATOR PASSWORD STORED`: a login, for which a text may also be one under the old secret.
+            "Policy::with_old_secret" => {
                 if let Some(policy) = answer.ok(policy.with_old_secret(call.bytes(5))) {
                     on_policy(call, 6, answer, &policy);
                 }
@@ -385,7 +393,7 @@ fn of_policy(call: &Call<'_, '_>, answer: &Answer) {
     }
 }
 
-// `.. GENERATOR PASSWORD`, then the new password if it is changed, and a text unless one is made.
+// `.. GENERATOR PASSWORD`, then the new password if it is changed, and what is stored, or `none`, unless a text is made.
 fn on_policy(call: &Call<'_, '_>, place: usize, answer: &Answer, policy: &Policy<'_>) {
     let (mut rng, password) = (call.generator(place), call.bytes(place.saturating_add(1)));
     match call.name {
@@ -393,23 +401,20 @@ fn on_policy(call: &Call<'_, '_>, place: usize, answer: &Answer, policy: &Policy
             answer.said(policy.hash_password(&mut rng, password));
             answer.drawn(&rng);
         }
-        name if name.ends_with("::hash_for_nobody") => {
-            policy.hash_for_nobody(password);
+        "Policy::change_password" => {
+            answer.said(policy.change_password(&mut rng, stored(call, 8), password, call.bytes(7)));
             answer.drawn(&rng);
         }
-        "Policy::change_password" => {
-            if let Some(value) = answer.ok(PasswordHash::new(call.str(8))) {
-                answer.said(policy.change_password(&mut rng, &value, password, call.bytes(7)));
-                answer.drawn(&rng);
-            }
-        }
         _ => {
-            if let Some(value) = answer.ok(PasswordHash::new(call.str(place.saturating_add(2)))) {
-                let done = policy.log_in(&mut rng, &value, password);
-                logged_in(answer, done, &rng);
-            }
+            let stored = stored(call, place.saturating_add(2));
+            logged_in(answer, policy.log_in(&mut rng, stored, password), &rng);
         }
     }
+}
+
+// What is stored for a name.
+fn stored<'a>(call: &Call<'_, 'a>, place: usize) -> Option<&'a str> {
+    Some(call.word(place)).filter(|word| *word != "none")
 }
 
 // What a login did, how many bytes it drew, and the fresh text.

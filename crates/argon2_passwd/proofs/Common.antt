@@ -11,16 +11,19 @@ pub use Rattle.std.specs.Prelude.{All, IfOk, IfSome, String, string_bytes, ◌�
 pub use Rattle.std.specs.Str.{is_utf8}
 pub use Rattle.std.specs.Str.Lines.{lines, lines_of_parts, strip_carriage_return}
 pub use Rattle.argon2_rows.proofs.TableLemmas.{err_is, quiet_then}
-pub use Rattle.argon2_rows.specs.Locks.{behind_lock, without_lock}
+pub use Rattle.argon2_programs.specs.Locks.{behind_lock, without_lock}
 pub use Rattle.argon2_store.specs.AccountFile.{HasCause, HasFailedBy, IsClosed, Reads}
 pub use Rattle.argon2_passwd.specs.Answers.{AccountFile, AddsEntries, additions, answer_without_text, Appends, AreSaid, behind, Bor, database_of, entries_in, entry_of, entry_or_flaw}
-pub use Rattle.argon2_passwd.specs.Answers.{FileError, Flaw, flaws_from, get, Ghosts, has_name, HasNames, is_locked, has_text, IsHonest, IsLooked, IsOfFirst, IsOpened, IsOpenFor, IsUnfound}
+pub use Rattle.argon2_passwd.specs.Answers.{FileError, Flaw, flaws_from, get, Ghosts, has_name, HasNames, has_text, IsHonest, IsLooked, IsOfFirst, IsOpened, IsOpenFor}
 pub use Rattle.argon2_passwd.specs.Answers.{Keeps, Line, line_has_name, Looks, NameTaken, new_line, new_lines, next_salt, file_failure, OfPassword, option_map, password_of, phc_of, scheme_of}
-pub use Rattle.argon2_passwd.specs.Answers.{Serves, Stays, Texts}
+pub use Rattle.argon2_passwd.specs.Answers.{AdmitsStored, SaysValue, Serves, Stays, Texts, value_after}
 pub use Rattle.argon2_passwd.specs.Lines.{IsEntryOrFlaw, IsTaken, parts_now, unmarked}
 pub use Rattle.argon2_passwd.specs.Passwords.{IsNotNew, IsUnread, line_of}
 pub use Rattle.argon2_passwd.specs.Answers.{Failure, is_denial, status_of}
-use Rattle.argon2_passwd.specs.Answers.{BoundError, is_refusal, IsDenied, Phc}
+use Rattle.argon2_policy.specs.Policy.{ChangeRefusal, Stream}
+pub use Rattle.argon2_policy.proofs.PolicyLemmas.{is_text, text_or}
+pub use Rattle.argon2_passwd.specs.Answers.{Denial, Denies, Policy, policy_value, RefusesChange}
+use Rattle.argon2_passwd.specs.Answers.{is_refusal}
 
 pub keeps_same : (known : Option (List ℕ)) → Keeps known known
 keeps_same known = grind arith
@@ -49,12 +52,15 @@ pub said_of : (input : Option (List ℕ)) (any_text : Bool) (read : List ℕ) (s
 said_of input any_text read said same are =
     IfSome_then input same (λ known all. subst (λ bytes. AreSaid any_text bytes said) all are)
 
+-- why a password is not changed
+pub refuses_change : (policy : Policy) (first second : List ℕ) (stored : Option (List ℕ)) (before after : Stream) (why : Denial)
+    → ChangeRefusal policy first second stored before after why → RefusesChange policy first second stored why
+refuses_change policy first second stored before after why (inl (denies, same)) = inl denies
+refuses_change policy first second stored before after why (inr (admits, making, drawn)) = inr (admits, making)
+
 -- an error of the file is no refusal
 pub no_refusal : (e : FileError) → is_refusal e ≡ false → status_of (file_failure e) ≡ 3
 no_refusal e file = grind arith
-
-denied_then : (Why : Phc → BoundError → Type 0) (o : Option (List ℕ)) (f : Failure) → IsDenied (λ v e. ⊥) o f → IsDenied Why o f
-denied_then Why o f is = grind arith
 
 module _ {S : Type 0} {g : Ghosts S} {Has : List ℕ → Texts → Type 0} where
   -- a file was opened, used so and closed
@@ -69,8 +75,7 @@ module _ {S : Type 0} {g : Ghosts S} {Has : List ℕ → Texts → Type 0} where
       (looked : IsOpenFor g Has path Does Next) → After (database_of looked.after) → IsOpenFor g Has path Does After
   looked_then looked next = opened_for looked.before looked.after looked.opened looked.does next
 
-  -- what refuses a call refuses it for whatever reason a value may be refused
-  pub unfound_then : {Why : Phc → BoundError → Type 0} {path : List ℕ} (name : List ℕ) (Closed : List S → Type 0) {f : Failure}
-      → IsUnfound g Has (λ v e. ⊥) path name Closed f → IsUnfound g Has Why path name Closed f
-  unfound_then {Why} name Closed {f} (inl (o, why, looked)) = inl (o, denied_then Why o f why, looked)
-  unfound_then name Closed (inr failed) = inr failed
+  -- a text that was read, by its bytes
+  pub looked_as : {path : List ℕ} (name : List ℕ) {Next : S → Type 0} {o p : Option (List ℕ)} → o ≡ p
+      → IsLooked g Has path name (Ok o) Next → IsLooked g Has path name (Ok p) Next
+  looked_as {path} name {Next} same looked = subst (λ x. IsLooked g Has path name (Ok x) Next) same looked

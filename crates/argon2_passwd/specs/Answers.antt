@@ -6,22 +6,19 @@ use Rattle.std.specs.Result.{result_map_both}
 pub use Rattle.std.specs.Io.KnownBytes.{Appends, Keeps}
 pub use Rattle.argon2_base.specs.PhcFields.{phc_of}
 use Rattle.argon2_base.specs.PhcText.{phc_text}
-use Rattle.argon2_base.specs.declared.error.password_hash.Error.TheVariants.{EncodingInvalid, PasswordInvalid}
 pub use Rattle.rand_core.specs.Stream.{fill_bytes}
 pub use Rattle.sqlite_trees.specs.declared.store.Store.{Ghosts}
 use Rattle.argon2.specs.Login.{accepted_text}
 pub use Rattle.argon2.specs.TextHashing.{IsFresh}
-use Rattle.argon2.specs.declared.bound.BoundError.TheVariants as bound
 use Rattle.argon2.specs.declared.login.answers.Accepted.{Accepted}
 use Rattle.argon2.specs.declared.login.answers.Accepted.TheVariants.{Kept, Rehashed}
-pub use Rattle.argon2_policy.specs.Policy.{Admits, ChangeRefusal, Denial, IsPolicy, LogsIn, Policy, policy_value}
+pub use Rattle.argon2_policy.specs.Policy.{AdmitsStored, Denies, IsPolicy, LogsIn, MakingRefusal, Policy, SaysValue, policy_value, value_after}
 pub use Rattle.argon2_programs.specs.Lines.{AppendsFront}
-pub use Rattle.argon2_rows.specs.Locks.{is_locked}
 pub use Rattle.argon2_rows.specs.Names.{IsFirstTaken, Texts, entry_of, get}
 pub use Rattle.argon2_rows.specs.Table.{IsHonest}
 pub use Rattle.argon2_store.specs.AccountFile.{HasNames, IsReady, NamesStay, Serves, Stays, WritesLines, error_of, database_of}
-use Rattle.argon2_store.specs.Edits.{Edit as FileEdit, adding, locking, removing, replacing, setting, text_of, unlocking}
-pub use Rattle.argon2_store.specs.Edits.{additions}
+use Rattle.argon2_store.specs.Edits.{NamedEdit, adding, locking, removing, replacing, setting, unlocking}
+pub use Rattle.argon2_store.specs.Edits.{additions, named_edit}
 use Rattle.argon2_store.specs.Errors.{read_by}
 pub use Rattle.argon2_store.specs.declared.account_file.AccountFile.{AccountFile}
 pub use Rattle.argon2_store.specs.declared.error.FileError.TheVariants.{Damaged, NameTaken, NameUnknown, OutOfMemory}
@@ -30,14 +27,12 @@ use Rattle.argon2_passwd.specs.declared.command.Action.{Action}
 use Rattle.argon2_passwd.specs.declared.command.Action.TheVariants.{Hash, Check, OnFile}
 use Rattle.argon2_passwd.specs.declared.command.Task.TheVariants.{Verify, Edit as Edits, Show, Import, ImportOthers}
 use Rattle.argon2_passwd.specs.declared.options.Options.{Options}
-use Rattle.argon2_passwd.specs.declared.command.Edit.{Edit}
-use Rattle.argon2_passwd.specs.declared.command.Edit.TheVariants.{Register, Change, Set, Remove, Lock, Unlock}
+use Rattle.argon2_passwd.specs.declared.command.EditTask.{EditTask}
+use Rattle.argon2_passwd.specs.declared.command.EditTask.TheVariants.{Register, Change, Set, Remove, Lock, Unlock}
 pub use Rattle.argon2_passwd.specs.Passwords.{IsNotNew, IsUnread, password_of}
 pub use Rattle.argon2_passwd.specs.Salts.{IsSalt, next_salt}
-use Rattle.argon2_passwd.specs.declared.run.edits.Step.{Step}
-use Rattle.argon2_passwd.specs.declared.run.edits.Step.TheVariants as step
-pub use Rattle.argon2_passwd.specs.Failures.{BoundError, denial_line, Failure, FileError, IsDenialOf, IsOfWrite, LineError, Params, is_denial, is_refusal, bound_failure, file_failure, lines_failure, status_by, status_of}
-use Rattle.argon2_passwd.specs.Failures.{File, Line as AtLine, Name, Passed, Refused, Scheme}
+pub use Rattle.argon2_passwd.specs.Failures.{Denial, denial_line, Failure, FileError, IsDenialOf, IsOfWrite, LineError, Params, is_denial, is_refusal, denial_failure, file_failure, lines_failure, status_by, status_of}
+use Rattle.argon2_passwd.specs.Failures.{File, Line as AtLine, Name, Passed}
 pub use Rattle.argon2_passwd.specs.Lines.{AreSaid, Bor, Flaw, IsOfFirst, Line, Phc, PhcText, entries_in, entry_or_flaw, flaws_from, has_name, has_text, line_has_name, new_line, new_lines, scheme_of}
 use Rattle.argon2_passwd.specs.Lines.{Taken, name_flaw}
 use Rattle.argon2_passwd.specs.declared.outside.News.{News}
@@ -66,24 +61,14 @@ abbrev pub login_text : Accepted → Phc → List ℕ
 login_text Rehashed fresh = accepted_text Rehashed ++ 10 ∷ phc_text fresh
 login_text did fresh = accepted_text did
 
--- what a text says that is not locked, and not of another scheme
-abbrev pub SaysHash : List ℕ → Phc → Type 0
-SaysHash text v = (is_locked text ≡ false) × (scheme_of text ≡ None) × PhcText text v
+-- what is stored refuses a call, for a reason that is this failure
+abbrev pub IsDenied : (Option (List ℕ) → Denial → Type 0) → Option (List ℕ) → Failure → Type 0
+IsDenied Why stored failure = (why : Denial) × Why stored why × (failure ≡ denial_failure why)
 
--- Why no password opens a text: it is locked, and is refused as a wrong password is; or it is of another scheme; or it is
--- outside the grammar.
-abbrev pub IsShut : List ℕ → Failure → Type 0
-IsShut text failure = (IsTrue (is_locked text) × (failure ≡ Refused (bound.Refused PasswordInvalid)))
-    ⊎ ((is_locked text ≡ false) × IsSomeAnd (scheme_of text) (λ scheme. failure ≡ Scheme scheme))
-    ⊎ ((is_locked text ≡ false) × (scheme_of text ≡ None) × ((v : Phc) → ¬ (PhcText text v))
-    × (failure ≡ Refused (bound.Refused EncodingInvalid)))
-
--- Why a call by a password is refused by what a name has: no text; one that no password opens; or for this reason one that
--- says a value.
-abbrev pub IsDenied : (Phc → BoundError → Type 0) → Option (List ℕ) → Failure → Type 0
-IsDenied Why None failure = failure ≡ File NameUnknown
-IsDenied Why (Some text) failure = IsShut text failure
-    ⊎ ((v : Phc) × (e : BoundError) × SaysHash text v × Why v e × (failure ≡ bound_failure e))
+-- why a password is not changed to the second: what is stored refuses the first, or no text is made
+abbrev pub RefusesChange : Policy → List ℕ → List ℕ → Option (List ℕ) → Denial → Type 0
+RefusesChange policy first second stored why =
+    Denies policy first stored why ⊎ (AdmitsStored policy first stored × MakingRefusal second why)
 
 -- the secret of the file at a path, if there is one
 abbrev pub IsSecret : (List ℕ → List ℕ → Type 0) → Option (Bor (List ℕ)) → Option (List ℕ) → Type 0
@@ -95,15 +80,6 @@ IsSecret Holds (Some path) secret = IsSomeAnd secret (Holds path.now)
 -- what an input has behind its first line
 abbrev pub behind : Known → Known
 behind input = option_map (drop_through 10) input
-
--- what a step does to the text of a name
-abbrev pub edit_of : Step → List ℕ → FileEdit
-edit_of (step.Add text) name = adding name (text_of text)
-edit_of (step.Set text) name = setting name (text_of text)
-edit_of (step.Replace old text) name = replacing name old.now (text_of text)
-edit_of step.Remove name = removing name
-edit_of step.Lock name = locking name
-edit_of step.Unlock name = unlocking name
 
 -- a fact of what the lines of a known input say
 abbrev pub OfLines : Bool → Known → (List Line → Type 0) → Type 0
@@ -189,7 +165,7 @@ Ends Made untouched result = Made result ⊎ (untouched × IsErrAnd result (λ f
 abbrev pub IsUnfit : Policy → Action → Known → Failure → Type 0
 IsUnfit policy Hash input failure = IsNotNew input failure
 IsUnfit policy (Check text) input failure = IsUnread input failure
-    ⊎ OfPassword (λ password. IsDenied (Denial policy password) (Some text.now) failure) input
+    ⊎ OfPassword (λ password. IsDenied (Denies policy password) (Some text.now) failure) input
 IsUnfit policy (OnFile path (Verify name)) input failure = IsUnread input failure
 IsUnfit policy (OnFile path (Edits Register name)) input failure =
     IsSomeAnd (name_flaw name.now) (λ why. failure ≡ Name why) ⊎ ((name_flaw name.now ≡ None) × IsNotNew input failure)
@@ -204,8 +180,8 @@ IsUnfit policy _ input failure = ⊥
 abbrev pub OfLine : (List ℕ → Type 0) → Policy → Action → Known → (List ℕ → Type 0) → Type 0
 OfLine Gives policy Hash input P = (v : Phc) × IsNewText Gives policy input v × P (phc_text v ++ 10 ∷ [])
 OfLine Gives policy (Check text) input P = OfPassword (λ password.
-    (drawn : List ℕ) × (v : Phc) × (did : Accepted) × (w : Phc) × IsSalt Gives drawn × SaysHash text.now v
-    × LogsIn policy password drawn v (Ok did) w × P (login_text did w ++ 10 ∷ [])) input
+    (drawn : List ℕ) × (v : Phc) × (did : Accepted) × (w : Phc) × IsSalt Gives drawn × SaysValue (Some text.now) v
+    × LogsIn policy password drawn v did w × P (login_text did w ++ 10 ∷ [])) input
 OfLine Gives policy _ input P = ⊥
 
 -- How a command ended that opened no file: its answer was said, or nothing, since it is refused before or fails.
@@ -227,7 +203,7 @@ module _ {S : Type 0} (g : Ghosts S) (Has : List ℕ → Texts → Type 0) where
   IsDone path Does Closed = IsOpenFor path Does (λ last. Closed (last ∷ []))
 
   -- all that was done there is one call, and this result tells of its answer
-  abbrev pub IsApplied : List ℕ → FileEdit → (List S → Type 0) → Outcome → Type 0
+  abbrev pub IsApplied : List ℕ → NamedEdit → (List S → Type 0) → Outcome → Type 0
   IsApplied path change Closed result =
       (done : Result (Unit {0}) FileError) × (result ≡ outcome_by file_failure done) × IsDone path (Serves (change ∷ []) done) Closed
 
@@ -237,32 +213,37 @@ module _ {S : Type 0} (g : Ghosts S) (Has : List ℕ → Texts → Type 0) where
       → Stays (error_of found) names before after
       × IfOk found (λ text. IsHonest g (database_of after) → get names name ≡ text))
 
-  -- a call on a name is refused by what was read there: its text can't be read, or what the name has refuses the call
-  abbrev pub IsUnfound : (Phc → BoundError → Type 0) → List ℕ → List ℕ → (List S → Type 0) → Failure → Type 0
+  -- the text of a name can't be read
+  abbrev pub FailsToRead : List ℕ → List ℕ → (List S → Type 0) → Failure → Type 0
+  FailsToRead path name Closed failure =
+      (e : FileError) × (failure ≡ file_failure e) × IsLooked path name (Err e) (λ read. Closed (read ∷ []))
+
+  -- a call on a name is refused: its text can't be read, or what the name has refuses the call
+  abbrev pub IsUnfound : (Option (List ℕ) → Denial → Type 0) → List ℕ → List ℕ → (List S → Type 0) → Failure → Type 0
   IsUnfound Why path name Closed failure =
       ((o : Option (List ℕ)) × IsDenied Why o failure × IsLooked path name (Ok o) (λ read. Closed (read ∷ [])))
-      ⊎ ((e : FileError) × (failure ≡ file_failure e) × IsLooked path name (Err e) (λ read. Closed (read ∷ [])))
+      ⊎ FailsToRead path name Closed failure
 
 module _ {S : Type 0} (g : Ghosts S) (Has : List ℕ → Texts → Type 0) (Gives : List ℕ → Type 0) where
   -- A login with the password was all that was done with the file at a path, with this result. If the text accepts the
   -- password, none is replaced, or a call to replace it ended so.
   abbrev pub IsLogin : Policy → List ℕ → List ℕ → List ℕ → Result Accepted Failure → (List S → Type 0) → Type 0
   IsLogin policy path name password result Closed =
-      IsErrAnd result (IsUnfound g Has (Denial policy password) path name Closed)
-      ⊎ ((old drawn : List ℕ) × (v w : Phc) × (did : Accepted) × IsSalt Gives drawn × SaysHash old v
-      × LogsIn policy password drawn v (Ok did) w × IsLooked g Has path name (Ok (Some old))
+      IsErrAnd result (IsUnfound g Has (Denies policy password) path name Closed)
+      ⊎ ((old drawn : List ℕ) × (v w : Phc) × (did : Accepted) × IsSalt Gives drawn × SaysValue (Some old) v
+      × LogsIn policy password drawn v did w × IsLooked g Has path name (Ok (Some old))
       (λ read. ((result ≡ Ok (answer_without_text did)) × Closed (read ∷ []))
       ⊎ ((done : Outcome) × (result ≡ login_by did done)
       × IsApplied g Has path (replacing name old (phc_text w)) (λ more. Closed (read ∷ more)) done)))
 
   -- A change of this kind was all that was done with the file at a path, by the passwords of the input and with this
   -- result. That the file can't be opened again is no refusal.
-  abbrev pub IsChange : Policy → List ℕ → Edit → List ℕ → Known → (List S → Type 0) → Outcome → Type 0
+  abbrev pub IsChange : Policy → List ℕ → EditTask → List ℕ → Known → (List S → Type 0) → Outcome → Type 0
   IsChange policy path Register name input Closed result = (name_flaw name ≡ None)
       × (v : Phc) × IsNewText Gives policy input v × IsApplied g Has path (adding name (phc_text v)) Closed result
   IsChange policy path Change name input Closed result = OfPassword (λ first. OfPassword (λ second. (second ≢ []) × (
-      IsErrAnd result (IsUnfound g Has (ChangeRefusal policy first second) path name Closed)
-      ⊎ ((old drawn : List ℕ) × (v w : Phc) × IsSalt Gives drawn × SaysHash old v × Admits policy first v
+      IsErrAnd result (IsUnfound g Has (RefusesChange policy first second) path name Closed)
+      ⊎ ((old drawn : List ℕ) × (w : Phc) × IsSalt Gives drawn × AdmitsStored policy first (Some old)
       × IsFresh policy.target second drawn w × IsLooked g Has path name (Ok (Some old))
       (λ read. Ends (IsApplied g Has path (replacing name old (phc_text w)) (λ more. Closed (read ∷ more)))
       (Closed (read ∷ [])) result)))) (behind input)) input

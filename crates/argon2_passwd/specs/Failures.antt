@@ -5,14 +5,15 @@ use Rattle.std.specs.declared.io.Error.{Error as IoError}
 use Rattle.std.specs.declared.io.ErrorKind.{ErrorKind}
 use Rattle.std.specs.declared.io.ErrorKind.TheVariants.{BrokenPipe}
 use Rattle.argon2_base.specs.declared.error.password_hash.Error.TheVariants.{OutOfMemory, PasswordInvalid}
-pub use Rattle.argon2.specs.declared.bound.BoundError.{BoundError}
-use Rattle.argon2.specs.declared.bound.BoundError.TheVariants as bound
+use Rattle.argon2_policy.specs.Denials.{is_wrong}
+pub use Rattle.argon2_policy.specs.declared.denial.Denial.{Denial}
+use Rattle.argon2_policy.specs.declared.denial.Denial.TheVariants as denial
 use Rattle.argon2_passwd.specs.declared.command.Action.{Action}
 use Rattle.argon2_passwd.specs.declared.command.Action.TheVariants.{OnFile}
-use Rattle.argon2_passwd.specs.declared.command.Edit.TheVariants.{Change}
+use Rattle.argon2_passwd.specs.declared.command.EditTask.TheVariants.{Change}
 use Rattle.argon2_passwd.specs.declared.command.Task.TheVariants.{Verify, Edit as Edits}
 pub use Rattle.argon2_passwd.specs.declared.failure.Failure.{Failure}
-pub use Rattle.argon2_passwd.specs.declared.failure.Failure.TheVariants.{NoPassword, LongPassword, EmptyPassword, Name, Params, Refused, Scheme, Line, Passed, Unopened, File, BrokenLine, Output, Unread, Memory}
+pub use Rattle.argon2_passwd.specs.declared.failure.Failure.TheVariants.{NoPassword, LongPassword, EmptyPassword, Name, Params, Denied, Line, Passed, Unopened, File, BrokenLine, Output, Unread, Memory}
 pub use Rattle.argon2_store.specs.Errors.{is_refusal}
 pub use Rattle.argon2_store.specs.declared.error.FileError.{FileError}
 use Rattle.argon2_store.specs.declared.error.FileError.TheVariants as file
@@ -29,9 +30,7 @@ status_of LongPassword = 1
 status_of EmptyPassword = 1
 status_of (Name why) = 1
 status_of Params = 2
-status_of (Refused (bound.Refused PasswordInvalid)) = 1
-status_of (Refused error) = 4
-status_of (Scheme scheme) = 4
+status_of (Denied why) = if is_wrong why then 1 else 4
 status_of (Line number why) = 1
 status_of (Passed lines) = 4
 status_of (File error) = if is_refusal error then 1 else 3
@@ -54,15 +53,16 @@ write_failure error = kind_failure (error_kind error)
 abbrev pub IsOfWrite : Failure → Type 0
 IsOfWrite failure = (error : IoError) × (failure ≡ write_failure error)
 
--- the failure by a refusal of the policy: out of memory is reported as that
-abbrev pub bound_failure : BoundError → Failure
-bound_failure (bound.Refused OutOfMemory) = Memory
-bound_failure error = Refused error
+-- the failure by a denial: out of memory is reported as that, and a locked text as a wrong password
+abbrev pub denial_failure : Denial → Failure
+denial_failure (denial.Refused OutOfMemory) = Memory
+denial_failure denial.Locked = Denied (denial.Refused PasswordInvalid)
+denial_failure why = Denied why
 
 -- the failure by a call on a file: a name that is locked is refused as a wrong password is
 abbrev pub file_failure : FileError → Failure
 file_failure file.OutOfMemory = Memory
-file_failure file.Locked = Refused (bound.Refused PasswordInvalid)
+file_failure file.Locked = Denied (denial.Refused PasswordInvalid)
 file_failure error = File error
 
 -- the failure by lines that are not all written
@@ -80,8 +80,8 @@ open_failure error = Unopened error
 
 -- the name is unknown, or its text refuses the password or is locked
 abbrev pub is_denial : Failure → Bool
+is_denial (Denied why) = is_wrong why
 is_denial (File file.NameUnknown) = true
-is_denial (Refused (bound.Refused PasswordInvalid)) = true
 is_denial _ = false
 
 -- they refuse a login, or a change of a password

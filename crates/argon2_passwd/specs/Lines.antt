@@ -14,7 +14,8 @@ pub use Rattle.argon2_base.specs.PhcText.{Phc, PhcText}
 use Rattle.argon2.specs.StoredTexts.{shown_settings}
 use Rattle.argon2_programs.specs.Prefixes.{after_any, begins_any, without_prefix}
 pub use Rattle.argon2_programs.specs.Schemes.{scheme_of}
-use Rattle.argon2_rows.specs.Locks.{IsLine, IsStored, without_lock}
+use Rattle.argon2_programs.specs.Locks.{without_lock}
+use Rattle.argon2_rows.specs.StoredTexts.{IsLine, IsStored}
 use Rattle.argon2_rows.specs.Names.{Texts, entry_of}
 use Rattle.argon2_rows.specs.Rows.{breaks_line}
 use Rattle.argon2_rows.specs.declared.view.View.TheVariants as views

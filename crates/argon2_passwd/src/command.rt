@@ -29,7 +29,7 @@ pub enum Task<'a> {
     /// `verify FILE NAME`: whether the text of a name accepts a password.
     Verify(&'a str),
     /// `register FILE NAME` and others: a change of the text of a name.
-    Edit(Edit, &'a str),
+    Edit(EditTask, &'a str),
     /// `list FILE` or `export FILE`: what the file has.
     Show(View),
     /// `import FILE`: names with their texts are added, also texts of other schemes if this is true.
@@ -43,14 +43,14 @@ impl Task<'_> {
     pub(crate) fn makes(&self) -> bool {
         matches!(
             self,
-            Task::Edit(Edit::Register, _) | Task::Import(_) | Task::ImportOthers(_)
+            Task::Edit(EditTask::Register, _) | Task::Import(_) | Task::ImportOthers(_)
         )
     }
 }
 
 /// What is done to the text of a name.
 #[derive(Clone, Copy)]
-pub enum Edit {
+pub enum EditTask {
     /// A new name gets a text of a password.
     Register,
     /// The name gets a text of another password, if its text accepts the old one.

@@ -6,10 +6,9 @@ ghost use Rattle.argon2_passwd.specs.Failures.{status_of};
 
 use crate::failure::{Failure, Flaw, of_reading};
 use argon2::password_hash::Settings;
-use argon2_programs::{begins_any, scheme_of};
+use argon2_programs::{begins_any, behind_lock, scheme_of};
 use argon2_rows::StoredText;
 pub use argon2_rows::table::LONGEST;
-use argon2_rows::text::behind_lock;
 use argon2_store::View;
 use std::alloc::Global;
 use std::io::BufRead;

@@ -2,11 +2,10 @@
 
 ghost use Rattle.std.specs.Prelude.{◌≡◌, ◌≢◌};
 ghost use Rattle.std.specs.IoError.{error_kind};
-ghost use Rattle.argon2_passwd.specs.Failures.{Memory, bound_failure, file_failure, lines_failure, open_failure, write_failure, status_of};
+ghost use Rattle.argon2_passwd.specs.Failures.{Memory, denial_failure, file_failure, lines_failure, open_failure, write_failure, status_of};
 
-use argon2::bound::BoundError;
 use argon2::password_hash;
-use argon2_programs::Scheme;
+use argon2_policy::Denial;
 use argon2_store::{FileError, LineError, OpenError};
 use std::alloc::{AllocError, AllocFailed};
 use std::io;
@@ -54,13 +53,9 @@ pub enum Failure {
     /// The parameters are above the bound.
     #[error("parameters are above the bound")]
     Params,
-    /// A text is outside the grammar, has no valid parameters or is above the bound, or it does not accept the
-    /// password.
+    /// What a name has, or the text that is given, does not accept the password.
     #[error(transparent)]
-    Refused(BoundError),
-    /// A text is of another scheme.
-    #[error("{}, not Argon2", .0.name())]
-    Scheme(Scheme),
+    Denied(Denial),
     /// The line of this number may not be added.
     #[error("line {0}: {1}")]
     Line(usize, Flaw),
@@ -119,8 +114,8 @@ impl Failure {
             | Failure::Name(_)
             | Failure::Line(_, _) => 1,
             Failure::Params => 2,
-            Failure::Refused(BoundError::Refused(password_hash::Error::PasswordInvalid)) => 1,
-            Failure::Refused(_) | Failure::Scheme(_) | Failure::Passed(_) => 4,
+            Failure::Denied(why) if why.is_wrong() => 1,
+            Failure::Denied(_) | Failure::Passed(_) => 4,
             Failure::File(error) if error.is_refusal() => 1,
             _ => 3,
         }
@@ -130,11 +125,11 @@ impl Failure {
     pub fn is_denial(&self) -> bool
         ensures { result ≡ is_denial self.now }
     {
-        matches!(
-            self,
-            Failure::File(FileError::NameUnknown)
-                | Failure::Refused(BoundError::Refused(password_hash::Error::PasswordInvalid))
-        )
+        match self {
+            Failure::Denied(why) => why.is_wrong(),
+            Failure::File(error) => matches!(error, FileError::NameUnknown),
+            _ => false,
+        }
     }
 }
 
@@ -179,26 +174,18 @@ impl From<io::Error> for Failure {
     }
 }
 
-/// The failure of a call of the policy. Out of memory is reported as that.
-impl From<BoundError> for Failure {
-    ghost from_gives = { λ error failure. failure ≡ bound_failure error };
+/// The failure of a call of the policy. Out of memory is reported as that, and a locked text as a wrong password.
+impl From<Denial> for Failure {
+    ghost from_gives = { λ why failure. failure ≡ denial_failure why };
 
-    fn from(error: BoundError) -> Failure {
-        match error {
-            BoundError::Refused(password_hash::Error::OutOfMemory) => Failure::Memory,
-            error => Failure::Refused(error),
+    fn from(why: Denial) -> Failure {
+        match why {
+            Denial::Refused(password_hash::Error::OutOfMemory) => Failure::Memory,
+            Denial::Locked => Failure::Denied(Denial::Refused(
+                password_hash::Error::PasswordInvalid,
+            )),
+            why => Failure::Denied(why),
         }
-    }
-}
-
-/// The same of a text that can't be read.
-impl From<password_hash::Error> for Failure {
-    ghost use Rattle.argon2.specs.declared.bound.BoundError.TheVariants.{Refused};
-
-    ghost from_gives = { λ error failure. failure ≡ bound_failure (Refused error) };
-
-    fn from(error: password_hash::Error) -> Failure {
-        Failure::from(BoundError::Refused(error))
     }
 }
 
@@ -209,9 +196,7 @@ impl From<FileError> for Failure {
     fn from(error: FileError) -> Failure {
         match error {
             FileError::OutOfMemory => Failure::Memory,
-            FileError::Locked => Failure::Refused(BoundError::Refused(
-                password_hash::Error::PasswordInvalid,
-            )),
+            FileError::Locked => Denial::Locked.into(),
             error => Failure::File(error),
         }
     }

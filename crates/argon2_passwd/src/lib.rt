@@ -10,7 +10,7 @@ mod outside;
 mod passwords;
 pub mod run;
 
-pub use command::{Action, Command, Edit, Task};
+pub use command::{Action, Command, EditTask, Task};
 pub use failure::{Failure, Flaw};
 pub use options::Options;
 pub use outside::{News, Outside};

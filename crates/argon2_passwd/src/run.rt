@@ -4,7 +4,7 @@
 ghost use Rattle.std.specs.Prelude.{◌≡◌, ◌≤◌, ◌⊎◌, ◌++◌, ◌∷◌, [], ℕ, vec_items, IfErr, IfOk, IsTrue, false, string_bytes, take};
 ghost use Rattle.argon2_passwd.specs.Answers.{Appends, AppendsFront, IsAnswered, IsDenialOf, IsEnded, IsNewText, IsPolicy, IsSalt, IsSecret, IsTold, IsNotNew, Outcome, Params, Says, denial_line, news_of, news_text, next_salt, option_map, phc_of, policy_by, policy_value, status_by, status_of};
 
-use crate::command::{Action, Command, Edit, Task};
+use crate::command::{Action, Command, EditTask, Task};
 use crate::failure::{Failure, Flaw};
 use crate::options::Options;
 use crate::outside::{News, Outside};
@@ -125,7 +125,7 @@ fn is_hidden(command: &Command<'_>, failure: &Failure) -> bool
 {
     let logs_in = matches!(
         command.action,
-        Action::OnFile(_, Task::Verify(_) | Task::Edit(Edit::Change, _))
+        Action::OnFile(_, Task::Verify(_) | Task::Edit(EditTask::Change, _))
     );
     logs_in && failure.is_denial() && !command.options.explain
 }
@@ -216,8 +216,8 @@ fn check<P: Outside, R: BufRead, W: Write>(
 {
     let mut rng = generator(outside)?;
     let password = password(alloc, input)?;
-    let (accepted, hash) = texts::login(policy, &mut rng, text, password.as_slice())?;
-    let reply = texts::reply(alloc, accepted, &hash)?;
+    let done = policy.log_in(&mut rng, Some(text), password.as_slice())?;
+    let reply = texts::reply(alloc, &done)?;
     say(output, reply.as_str())
 }
 

@@ -1,1 +1,3 @@
+pub mod Denials
 pub mod Policy
+pub mod StoredFor

@@ -1,13 +1,13 @@
 -- What callers see of a policy, and what its calls make of what a text says. The words that the contracts share are passed on.
-use Rattle.std.specs.Prelude.{◌≡◌, ◌≢◌, ◌⊎◌, ℕ, ◌≤◌, ◌<◌, List, Option, None, IsErrAnd, IsSomeAnd, Result, Ok, Err}
-use Rattle.std.specs.Option.{option_map}
+use Rattle.std.specs.Prelude.{◌≡◌, ◌≢◌, ◌⊎◌, ℕ, ◌≤◌, ◌<◌, List, if◌then◌else◌, Option, None, IsSomeAnd, Result, Ok, Err}
+use Rattle.std.specs.Option.{is_some, option_map}
 pub use Rattle.rand_core.specs.Stream.{Stream, fill_bytes}
 pub use Rattle.argon2_base.specs.PhcText.{Phc}
 pub use Rattle.argon2_base.specs.declared.error.password_hash.Error.{Error}
-pub use Rattle.argon2_base.specs.PhcFields.{phc_of}
+pub use Rattle.argon2_base.specs.PhcFields.{phc_of, text_of}
 pub use Rattle.argon2_base.specs.declared.error.password_hash.Error.TheVariants.{OutOfMemory, OutputSize, PasswordInvalid}
 use Rattle.argon2.specs.Argon2.{secret_of}
-pub use Rattle.argon2.specs.Bound.{AsksWithin, HashRefusal, IsWithin}
+pub use Rattle.argon2.specs.Bound.{AsksWithin, HashRefusal, IsWithin, StoredRefusal}
 pub use Rattle.argon2.specs.TextHashing.{HashingRefusal, IsFresh, IsTarget, Target, tag_length, target_of}
 pub use Rattle.argon2.specs.Refusals.{max_len}
 pub use Rattle.argon2.specs.Settings.{Settings}
@@ -15,9 +15,13 @@ pub use Rattle.argon2.specs.NamedTexts.{accepted_by, stream_after, value_after}
 pub use Rattle.argon2.specs.StoredTexts.{AcceptsBy, IsVerifyAnswer, settings_value, shown_settings}
 pub use Rattle.argon2.specs.declared.bound.Bound.{Bound}
 pub use Rattle.argon2.specs.declared.bound.BoundError.{BoundError}
-pub use Rattle.argon2.specs.declared.bound.BoundError.TheVariants.{Refused, TooExpensive}
+use Rattle.argon2.specs.declared.bound.BoundError.TheVariants as bound
 use Rattle.argon2.specs.declared.login.answers.Accepted.{Accepted}
 pub use Rattle.argon2.specs.declared.login.answers.Accepted.TheVariants.{Current, Kept, Rehashed}
+pub use Rattle.argon2_policy.specs.Denials.{Denial, Refused, TooExpensive}
+pub use Rattle.argon2_policy.specs.StoredFor.{IsShut, SaysValue}
+use Rattle.argon2_policy.specs.declared.policy.Age.{Age}
+pub use Rattle.argon2_policy.specs.declared.policy.Age.TheVariants.{Outdated, Recent}
 use Rattle.argon2_policy.specs.declared.policy.Policy.{Policy as OwnPolicy}
 
 -- what passwords are hashed and verified under: a target, a secret that was in use before, if one is given, and a bound
@@ -38,9 +42,9 @@ policy_value own =
 
 -- why there is no policy of a target and a bound
 abbrev pub PolicyRefusal : Target → Bound → BoundError → Type 0
-PolicyRefusal target bound (Refused e) = (e ≡ OutputSize) × (64 < tag_length target.settings)
-PolicyRefusal target bound TooExpensive =
-    (tag_length target.settings ≤ 64) × ¬ (IsWithin bound target.settings.parameters)
+PolicyRefusal target most (bound.Refused e) = (e ≡ OutputSize) × (64 < tag_length target.settings)
+PolicyRefusal target most bound.TooExpensive =
+    (tag_length target.settings ≤ 64) × ¬ (IsWithin most target.settings.parameters)
 
 -- a policy of a target and a bound without an old secret, or the refusal
 abbrev pub IsNewPolicy : Target → Bound → Result OwnPolicy BoundError → Type 0
@@ -90,37 +94,62 @@ SecretsRefusal policy password v e = let first = IsVerifyAnswer policy.target.se
     ⊎ (first (Err PasswordInvalid)
     × IsSomeAnd policy.old_secret (λ secret. IsVerifyAnswer secret password v (Err e)))
 
--- why a password is refused: the value's costs can't be read or are above the bound, or no secret accepts
-abbrev pub Denial : Policy → List ℕ → Phc → BoundError → Type 0
-Denial policy password v TooExpensive = HashRefusal policy.bound v TooExpensive
-Denial policy password v (Refused e) = HashRefusal policy.bound v (Refused e)
+-- ---- what is stored for a name
+
+-- what is stored accepts the password within the bound
+abbrev pub AdmitsStored : Policy → List ℕ → Option (List ℕ) → Type 0
+AdmitsStored policy password stored = (v : Phc) × SaysValue stored v × Admits policy password v
+
+-- why a value refuses a password: it can't be verified or is above the bound, or no secret accepts
+abbrev pub IsDenial : Policy → List ℕ → Phc → Denial → Type 0
+IsDenial policy password v TooExpensive = HashRefusal policy.bound v bound.TooExpensive
+IsDenial policy password v (Refused e) = StoredRefusal policy.bound v (bound.Refused e)
     ⊎ (AsksWithin policy.bound v × SecretsRefusal policy password v e)
+IsDenial policy password v _ = ⊥
+
+-- why what is stored refuses a password
+abbrev pub Denies : Policy → List ℕ → Option (List ℕ) → Denial → Type 0
+Denies policy password stored why = IsShut stored why ⊎ ((v : Phc) × SaysValue stored v × IsDenial policy password v why)
+
+-- how often a wrong password is hashed: once, and once more under an old secret
+abbrev pub hashes_of_wrong : Policy → ℕ
+hashes_of_wrong policy = if is_some policy.old_secret then 2 else 1
+
+-- how often a password is hashed that is refused for this reason: as often as a wrong one, unless the text is above the bound or
+-- memory is refused
+abbrev pub IsHashedFor : Policy → Denial → ℕ → Type 0
+IsHashedFor policy TooExpensive n = n ≡ 0
+IsHashedFor policy (Refused OutOfMemory) n = n ≤ hashes_of_wrong policy
+IsHashedFor policy why n = n ≡ hashes_of_wrong policy
 
 -- ---- what calls answer, and what they make of a value
 
--- why no text is made of a password
-abbrev pub MakingRefusal : List ℕ → BoundError → Type 0
-MakingRefusal password TooExpensive = ⊥
-MakingRefusal password (Refused e) = HashingRefusal password e
+-- whether a value that the target's secret accepts stays
+abbrev pub IsAged : Target → Phc → Age → Type 0
+IsAged target v Recent = IsNoWeaker target v
+IsAged target v Outdated = ¬ (IsNoWeaker target v)
+
+-- a value that accepts a password: it stays, or is to be made anew
+abbrev pub IsFound : Policy → List ℕ → Phc → Age → Type 0
+IsFound policy password v Recent = AcceptsBy policy.target.secret password v × IsNoWeaker policy.target v
+IsFound policy password v Outdated = IsOutdated policy password v
 
 -- a login
-abbrev pub LogsIn : Policy → List ℕ → List ℕ → Phc → Result Accepted BoundError → Phc → Type 0
-LogsIn policy password drawn v (Ok Current) w = AsksWithin policy.bound v
+abbrev pub LogsIn : Policy → List ℕ → List ℕ → Phc → Accepted → Phc → Type 0
+LogsIn policy password drawn v Current w = AsksWithin policy.bound v
     × AcceptsBy policy.target.secret password v × IsNoWeaker policy.target v × (w ≡ v)
-LogsIn policy password drawn v (Ok Rehashed) w =
+LogsIn policy password drawn v Rehashed w =
     AsksWithin policy.bound v × IsOutdated policy password v × IsFresh policy.target password drawn w
-LogsIn policy password drawn v (Ok Kept) w =
+LogsIn policy password drawn v Kept w =
     AsksWithin policy.bound v × IsOutdated policy password v × (w ≡ v)
-LogsIn policy password drawn v (Err e) w = Denial policy password v e × (w ≡ v)
 
--- why a password is not changed: the old one is verified first
-abbrev pub ChangeRefusal : Policy → List ℕ → List ℕ → Phc → BoundError → Type 0
-ChangeRefusal policy old password v e =
-    Denial policy old v e ⊎ (Admits policy old v × MakingRefusal password e)
+-- why no text is made of a password
+abbrev pub MakingRefusal : List ℕ → Denial → Type 0
+MakingRefusal password (Refused e) = HashingRefusal password e
+MakingRefusal password _ = ⊥
 
--- what the generator has left after a change: 16 bytes are drawn once the old password is accepted
-abbrev pub DrawsIfAdmitted : {X : Type 0}
-    → Policy → List ℕ → Phc → Result X BoundError → Stream → Stream → Type 0
-DrawsIfAdmitted policy old v answer before after =
-    (Admits policy old v × (after ≡ (fill_bytes 16 before).1))
-    ⊎ (IsErrAnd answer (Denial policy old v) × (after ≡ before))
+-- Why a password is not changed, and what the generator has left then: the old one is verified first, and 16 bytes are drawn
+-- once it is accepted.
+abbrev pub ChangeRefusal : Policy → List ℕ → List ℕ → Option (List ℕ) → Stream → Stream → Denial → Type 0
+ChangeRefusal policy old password stored before after why = (Denies policy old stored why × (after ≡ before))
+    ⊎ (AdmitsStored policy old stored × MakingRefusal password why × (after ≡ (fill_bytes 16 before).1))

@@ -6,13 +6,25 @@ ghost use Rattle.argon2.specs.Argon2.{parameters_of, settings_of};
 ghost use Rattle.argon2.specs.Bound.{IsWithin};
 ghost use Rattle.argon2.specs.TextHashing.{IsTarget, target_of};
 
+use crate::denial::Denial;
+use crate::hashes::Hashes;
+use crate::stored::read;
 use argon2::bound::{Bound, BoundError};
 use argon2::login::{Accepted, LoggedIn};
 use argon2::password_hash::{Error, Settings};
 use argon2::phc::Output;
-use argon2::{Argon2, Params, PasswordHash, PasswordHasher, PasswordVerifier};
+use argon2::{Argon2, Params, PasswordHash, PasswordHasher};
 use rand_core::Rng;
 use std::alloc::Global;
+
+/// Whether a text that accepts a password stays.
+#[derive(Clone, Copy)]
+pub(crate) enum Age {
+    /// The target's secret accepts, and the text is no weaker than the target.
+    Recent,
+    /// It is to be made anew.
+    Outdated,
+}
 
 /// What passwords are hashed and verified under: a target whose hashes fit into texts, a bound on what a
 /// stored text may ask for, which the target is within, and an old secret, if one is given.
@@ -28,10 +40,10 @@ pub struct Policy<'key> {
 }
 
 impl<'key> Policy<'key> {
-    ghost use Rattle.std.specs.Prelude.{◌≡◌, ◌≢◌, ◌⊎◌, ◌↔◌, ◌≤◌, ◌<◌, Some, Ok, true, false, IsSome, IsTrue, IfOk, IfErr, OnOk, MatchResult, length};
+    ghost use Rattle.std.specs.Prelude.{◌≡◌, ◌≢◌, ◌⊎◌, ◌↔◌, ◌≤◌, ◌<◌, Some, Ok, IsSome, IsTrue, IfSome, IfOk, IfErr, MatchResult, length, option_copied};
     ghost use Rattle.argon2_base.specs.declared.error.Error.TheVariants.{SecretTooLong};
-    ghost use Rattle.argon2_policy.specs.Policy.{AcceptsBy, AcceptsByOld, Admits, AreNoWeaker, ChangeRefusal, Denial, DrawsIfAdmitted, IsFresh, IsNewPolicy, IsNoWeaker, Kept, LogsIn, MakingRefusal, OutOfMemory};
-    ghost use Rattle.argon2_policy.specs.Policy.{Refused, Rehashed, accepted_by, fill_bytes, max_len, phc_of, policy_value, settings_value, stream_after, value_after};
+    ghost use Rattle.argon2_policy.specs.Policy.{AdmitsStored, AreNoWeaker, AsksWithin, ChangeRefusal, Denies, HashingRefusal, IsAged, IsDenial, IsFound, IsFresh, IsHashedFor, IsNewPolicy, IsNoWeaker, LogsIn, Phc};
+    ghost use Rattle.argon2_policy.specs.Policy.{OutOfMemory, Refused, Rehashed, SaysValue, accepted_by, fill_bytes, hashes_of_wrong, max_len, phc_of, policy_value, settings_value, shown_settings, stream_after, text_of, value_after};
 
     /// A policy of a target and a bound, without an old secret. Its calls allocate from `alloc`; this one
     /// allocates nothing.
@@ -91,64 +103,67 @@ impl<'key> Policy<'key> {
     /// and freed before the call returns.
     ///
     /// # Errors
-    /// [`BoundError::Refused`] with the first of these that holds:
+    /// The first of these that holds:
     /// - [`Error::OutOfMemory`]: the request was refused.
     /// - [`Error::PasswordInvalid`]: the password is longer than 4294967295 bytes.
-    pub fn hash_password<R: Rng>(
-        &self,
-        rng: &mut R,
-        password: &[u8],
-    ) -> Result<PasswordHash, BoundError>
+    pub fn hash_password<R: Rng>(&self, rng: &mut R, password: &[u8]) -> Result<PasswordHash, Error>
         ensures made { MatchResult result
             (λ text. IsFresh (policy_value self.now).target password.now
             (fill_bytes 16 (R.stream rng.old)).0 (phc_of text))
-            (MakingRefusal password.now) }
+            (HashingRefusal password.now) }
         ensures accepted { IfOk result (λ text.
-            Admits (policy_value self.now) password.now (phc_of text)) }
+            AdmitsStored (policy_value self.now) password.now (Some (text_of text))) }
         ensures current { IfOk result (λ text.
             IsNoWeaker (policy_value self.now).target (phc_of text)) }
         ensures drawn { R.stream rng.new ≡ (fill_bytes 16 (R.stream rng.old)).1 }
     {
-        Ok(self.target.hash_password(self.alloc, rng, password)?)
+        self.target.hash_password(self.alloc, rng, password)
     }
 
-    /// Verifies a password against a text that asks for no more than the bound, under the target's secret,
-    /// and if that refuses it, under the old one. A text stays if the target's secret accepts the password
-    /// and the text is no weaker than the target: it has the target's algorithm, version, key identifier
-    /// and associated data, no lower cost and no shorter hash. For any other text that is accepted a fresh
-    /// one is made, as by [`hash_password`](Policy::hash_password). The caller stores it over the old one.
+    /// Verifies a password by what is stored for a name: a text that asks for no more than the bound, under the
+    /// target's secret, and if that refuses it, under the old one. `stored` is `None` if the name is unknown. A text
+    /// stays if the target's secret accepts the password and the text is no weaker than the target: it has the target's
+    /// algorithm, version, key identifier and associated data, no lower cost and no shorter hash. For any other text
+    /// that is accepted a fresh one is made, as by [`hash_password`](Policy::hash_password). The caller stores it over
+    /// the old one.
+    ///
+    /// A password that is refused is hashed as often as a wrong one: once, and once more under an old secret. So a refusal
+    /// takes about as long if the name is unknown as with a text of the target's costs. No contract says so: time is not
+    /// proved. A text above the bound is refused without a hash.
     ///
     /// Nothing is drawn but for a fresh text; then 16 bytes are, even if there is no memory for it.
     ///
     /// # Errors
     /// The first of these that holds:
-    /// - those of [`Bound::admit_hash`], whatever memory there is.
-    /// - [`BoundError::Refused`] with the reason: the text can't be verified under the target's secret, or
-    ///   does not accept the password under it; if the reason is [`Error::PasswordInvalid`], the same
-    ///   under the old secret.
-    #[tactic(auto, using(crate::proofs::PolicyLemmas::denied))]
+    /// - [`Denial::NameUnknown`]: nothing is stored.
+    /// - [`Denial::Locked`]: the text is locked.
+    /// - [`Denial::OtherScheme`]: the text begins as one of another scheme.
+    /// - [`Denial::Refused`] with [`Error::EncodingInvalid`]: the text is outside the grammar of PHC texts.
+    /// - those of [`Bound::admit_stored`], whatever memory there is.
+    /// - [`Denial::Refused`] with [`Error::OutOfMemory`] or [`Error::PasswordInvalid`]: the text does not accept the
+    ///   password under the target's secret, nor under the old one.
     pub fn log_in<R: Rng>(
         &self,
         rng: &mut R,
-        text: &PasswordHash,
+        stored: Option<&str>,
         password: &[u8],
-    ) -> Result<LoggedIn, BoundError>
-        ensures step { let v = phc_of text.now in MatchResult result
-            (λ done. LogsIn (policy_value self.now) password.now
-            (fill_bytes 16 (R.stream rng.old)).0 v (Ok done.accepted) (value_after v done.fresh))
-            (Denial (policy_value self.now) password.now v) }
+    ) -> Result<LoggedIn, Denial>
+        ensures step { let text = option_copied stored.entry in MatchResult result
+            (λ done. (v : Phc) × SaysValue text v × LogsIn (policy_value self.now) password.now
+            (fill_bytes 16 (R.stream rng.old)).0 v done.accepted (value_after v done.fresh))
+            (Denies (policy_value self.now) password.now text) }
         ensures fresh { IfOk result (λ done. IsSome done.fresh ↔ (done.accepted ≡ Rehashed)) }
-        ensures accepted { let v = phc_of text.now in MatchResult result
-            (λ done. Admits (policy_value self.now) password.now v
-            × Admits (policy_value self.now) password.now (value_after v done.fresh))
-            (λ e. (e ≡ Refused OutOfMemory) ⊎ ¬ (Admits (policy_value self.now) password.now v)) }
-        ensures current { IfOk result (λ done. done.accepted ≢ Kept →
-            IsNoWeaker (policy_value self.now).target
-            (value_after (phc_of text.now) done.fresh)) }
+        ensures accepted { let text = option_copied stored.entry in MatchResult result
+            (λ done. AdmitsStored (policy_value self.now) password.now text
+            × IfSome done.fresh (λ fresh.
+            AdmitsStored (policy_value self.now) password.now (Some (text_of fresh))))
+            (λ e. (e ≡ Refused OutOfMemory)
+            ⊎ ¬ (AdmitsStored (policy_value self.now) password.now text)) }
+        ensures current { IfOk result (λ done. IfSome done.fresh (λ fresh.
+            IsNoWeaker (policy_value self.now).target (phc_of fresh))) }
         ensures drawn { R.stream rng.new ≡ stream_after (accepted_by result) (R.stream rng.old) }
     {
-        let by_target = self.verify(text, password)?;
-        if by_target && self.is_no_weaker(text) {
+        if let Age::Recent = self.admit(stored, password, &mut Hashes::new())? {
             return Ok(LoggedIn {
                 accepted: Accepted::Current,
                 fresh: None,
@@ -168,78 +183,112 @@ impl<'key> Policy<'key> {
 
     /// A fresh text of a new password, which the caller stores over a text that accepts the old password
     /// as by [`log_in`](Policy::log_in). 16 bytes are drawn once the old password is accepted, and else
-    /// nothing is.
+    /// nothing is. An old password that is refused is hashed as often as by [`log_in`](Policy::log_in).
     ///
     /// # Errors
     /// The first of these that holds:
     /// - those of [`log_in`](Policy::log_in) with the old password.
-    /// - those of [`hash_password`](Policy::hash_password) with the new one.
+    /// - [`Denial::Refused`] with those of [`hash_password`](Policy::hash_password) with the new one.
     pub fn change_password<R: Rng>(
         &self,
         rng: &mut R,
-        text: &PasswordHash,
+        stored: Option<&str>,
         old: &[u8],
         new: &[u8],
-    ) -> Result<PasswordHash, BoundError>
-        ensures made { MatchResult result
-            (λ fresh. Admits (policy_value self.now) old.now (phc_of text.now)
-            × IsFresh (policy_value self.now).target new.now (fill_bytes 16 (R.stream rng.old)).0
-            (phc_of fresh))
-            (ChangeRefusal (policy_value self.now) old.now new.now (phc_of text.now)) }
+    ) -> Result<PasswordHash, Denial>
+        ensures made { let text = option_copied stored.entry in let before = R.stream rng.old in MatchResult result
+            (λ fresh. AdmitsStored (policy_value self.now) old.now text
+            × IsFresh (policy_value self.now).target new.now (fill_bytes 16 before).0 (phc_of fresh)
+            × (R.stream rng.new ≡ (fill_bytes 16 before).1))
+            (ChangeRefusal (policy_value self.now) old.now new.now text before (R.stream rng.new)) }
         ensures accepted { IfOk result (λ fresh.
-            Admits (policy_value self.now) new.now (phc_of fresh)) }
-        ensures drawn { DrawsIfAdmitted (policy_value self.now) old.now (phc_of text.now) result
-            (R.stream rng.old) (R.stream rng.new) }
+            AdmitsStored (policy_value self.now) new.now (Some (text_of fresh))) }
     {
-        self.verify(text, old)?;
-        self.hash_password(rng, new)
+        self.admit(stored, old, &mut Hashes::new())?;
+        Ok(self.hash_password(rng, new)?)
     }
 
-    /// Hashes a password as often as a wrong one is hashed: once, or twice if there is an old secret. A
-    /// caller that refuses a name which it does not know calls it first, so that the refusal takes as long
-    /// as that of a wrong password. No contract says so: time is not proved.
-    pub fn hash_for_nobody(&self, password: &[u8]) {
-        let salt = [0; 16];
-        let _ = self
-            .target
-            .hash_password_with_salt(self.alloc, password, &salt);
-        if let Some(old) = &self.old {
-            let _ = old.hash_password_with_salt(self.alloc, password, &salt);
-        }
-    }
-
-    // Whether the target's secret accepts the password; if it does not, the old one does.
-    fn verify(&self, text: &PasswordHash, password: &[u8]) -> Result<bool, BoundError>
-        ensures admitted { OnOk result
-            (Admits (policy_value self.now) password.now (phc_of text.now)) }
-        ensures by_target { (result ≡ Ok true) → AcceptsBy (policy_value self.now).target.secret
-            password.now (phc_of text.now) }
-        ensures by_old { (result ≡ Ok false) → AcceptsByOld (policy_value self.now) password.now
-            (phc_of text.now) }
-        ensures refused { IfErr result
-            (Denial (policy_value self.now) password.now (phc_of text.now)) }
+    // Whether a password is accepted by what is stored, and whether that is to be made anew.
+    fn admit(
+        &self,
+        stored: Option<&str>,
+        password: &[u8],
+        hashes: &mut Hashes,
+    ) -> Result<Age, Denial>
+        requires { hashes.old ≡ 0 }
+        ensures found { IfOk result (λ age. (v : Phc) × SaysValue (option_copied stored.entry) v
+            × AsksWithin (policy_value self.now).bound v × IsFound (policy_value self.now) password.now v age) }
+        ensures denied { IfErr result
+            (Denies (policy_value self.now) password.now (option_copied stored.entry)) }
+        ensures refused { IfErr result (λ why. (why ≡ Refused OutOfMemory)
+            ⊎ ¬ (AdmitsStored (policy_value self.now) password.now (option_copied stored.entry))) }
+        ensures hashed { IfErr result (λ why. IsHashedFor (policy_value self.now) why hashes.new) }
     {
-        self.bound.admit_hash(text)?;
-        let refusal = match self.target.verify_password(self.alloc, password, text) {
-            Ok(()) => return Ok(true),
-            Err(error) => error,
-        };
-        match (&self.old, refusal) {
-            (Some(old), Error::PasswordInvalid) => {
-                old.verify_password(self.alloc, password, text)?;
-                Ok(false)
+        match read(stored) {
+            Ok(hash) => self.verify(&hash, password, hashes),
+            Err(why) => {
+                self.hash_for_nobody(password, hashes);
+                Err(why)
             }
-            _ => Err(BoundError::Refused(refusal)),
         }
     }
 
-    // Whether a text shows settings that are no weaker than the target.
-    fn is_no_weaker(&self, text: &PasswordHash) -> bool
-        ensures { IsTrue result ↔ IsNoWeaker (policy_value self.now).target (phc_of text.now) }
+    // Verifies a password by a text that is open.
+    fn verify(
+        &self,
+        hash: &PasswordHash,
+        password: &[u8],
+        hashes: &mut Hashes,
+    ) -> Result<Age, Denial>
+        requires { hashes.old ≡ 0 }
+        ensures found { IfOk result (λ age. AsksWithin (policy_value self.now).bound (phc_of hash.now)
+            × IsFound (policy_value self.now) password.now (phc_of hash.now) age) }
+        ensures denied { IfErr result
+            (IsDenial (policy_value self.now) password.now (phc_of hash.now)) }
+        ensures hashed { IfErr result (λ why. IsHashedFor (policy_value self.now) why hashes.new) }
     {
-        match Settings::try_from(text) {
-            Ok(shown) => self.allows(&shown),
-            Err(_) => false,
+        let text = match self.bound.admit_stored(hash) {
+            Ok(text) => text,
+            Err(BoundError::TooExpensive) => return Err(Denial::TooExpensive),
+            Err(BoundError::Refused(error)) => {
+                self.hash_for_nobody(password, hashes);
+                return Err(Denial::Refused(error));
+            }
+        };
+        let Err(error) = hashes.verify(&self.target, self.alloc, password, &text) else {
+            return Ok(self.age(&text.settings));
+        };
+        if error != Error::PasswordInvalid {
+            return Err(Denial::Refused(error));
+        }
+        let Some(old) = &self.old else {
+            return Err(Denial::Refused(error));
+        };
+        hashes.verify(old, self.alloc, password, &text)?;
+        Ok(Age::Outdated)
+    }
+
+    // Hashes a password as often as a wrong one is hashed.
+    fn hash_for_nobody(&self, password: &[u8], hashes: &mut Hashes)
+        requires { hashes.old ≡ 0 }
+        ensures { hashes.new ≡ hashes_of_wrong (policy_value self.now) }
+    {
+        let salt = [0; 16];
+        let _ = hashes.make(&self.target, self.alloc, password, &salt);
+        if let Some(old) = &self.old {
+            let _ = hashes.make(old, self.alloc, password, &salt);
+        }
+    }
+
+    // Whether a text with these settings stays.
+    fn age(&self, shown: &Settings) -> Age
+        ensures { (v : Phc) → shown_settings v ≡ Ok (settings_value shown.now)
+            → IsAged (policy_value self.now).target v result }
+    {
+        if self.allows(shown) {
+            Age::Recent
+        } else {
+            Age::Outdated
         }
     }
 

@@ -1,4 +1,5 @@
 pub mod Failures
 pub mod Lines
+pub mod Locks
 pub mod Prefixes
 pub mod Schemes

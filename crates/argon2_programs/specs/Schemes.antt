@@ -22,3 +22,15 @@ scheme_of text =
     || begins_any (codes "{SHA1" ∷ codes "{SHA2" ∷ codes "{SHA3" ∷ codes "{SHA5" ∷ []) text
     || begins_any (codes "{SSHA2" ∷ codes "{SSHA3" ∷ codes "{SSHA5" ∷ []) text then Some Ldap
     else None
+
+-- the scheme's name, as the programs print it
+abbrev pub scheme_name : Scheme → List ℕ
+scheme_name Bcrypt = codes "bcrypt"
+scheme_name Scrypt = codes "scrypt"
+scheme_name Pbkdf2 = codes "PBKDF2"
+scheme_name Yescrypt = codes "yescrypt"
+scheme_name Sha256Crypt = codes "sha256crypt"
+scheme_name Sha512Crypt = codes "sha512crypt"
+scheme_name Md5Crypt = codes "md5crypt"
+scheme_name Django = codes "Django digest"
+scheme_name Ldap = codes "LDAP digest"

@@ -5,11 +5,13 @@
 mod arguments;
 mod failure;
 mod line;
+mod locks;
 mod prefixes;
 mod schemes;
 
 pub use arguments::words;
 pub use failure::Failure;
 pub use line::{write_bytes, write_line, write_parts};
+pub use locks::behind_lock;
 pub use prefixes::{after_any, bare, bare_str, begins_any, is_named};
 pub use schemes::{Scheme, scheme_of};

@@ -1,7 +1,7 @@
 //! Schemes other than Argon2, and how their texts begin.
 
 ghost use Rattle.std.specs.Prelude.{◌≡◌};
-ghost use Rattle.argon2_programs.specs.Schemes.{scheme_of};
+ghost use Rattle.argon2_programs.specs.Schemes.{scheme_name, scheme_of};
 
 use crate::prefixes::{begins_any, is_named};
 
@@ -23,7 +23,9 @@ pub enum Scheme {
 
 impl Scheme {
     /// The scheme's name, as the programs print it.
-    pub fn name(&self) -> &'static str {
+    pub fn name(&self) -> &'static str
+        ensures { result.now ≡ scheme_name self.now }
+    {
         match self {
             Scheme::Bcrypt => "bcrypt",
             Scheme::Scrypt => "scrypt",

@@ -1,4 +1,4 @@
-pub mod Locks
 pub mod Names
 pub mod Rows
+pub mod StoredTexts
 pub mod Table

@@ -8,7 +8,7 @@ pub use Rattle.std.specs.declared.cmp.Ordering.TheVariants.{Less}
 pub use Rattle.sqlite_value.specs.declared.value.Value.TheVariants.{Text}
 pub use Rattle.sqlite_value.specs.Order.{Row}
 pub use Rattle.argon2_programs.specs.Lines.{AppendsFront}
-use Rattle.argon2_rows.specs.Locks.{IsLine}
+use Rattle.argon2_rows.specs.StoredTexts.{IsLine}
 use Rattle.argon2_rows.specs.Names.{Texts as Named, slice_cmp, entries, get, nat_cmp}
 use Rattle.argon2_rows.specs.declared.view.View.{View}
 use Rattle.argon2_rows.specs.declared.view.View.TheVariants.{Names, Texts}

@@ -1,14 +1,15 @@
 //! Texts as they are stored.
 
 ghost use Rattle.std.specs.Prelude.{◌≡◌, ◌⊎◌, IfErr, IfOk, MatchOption};
-ghost use Rattle.std.specs.Option.{option_copied};
 ghost use Rattle.argon2_base.specs.PhcFields.{phc_of};
 ghost use Rattle.argon2_base.specs.PhcText.{PhcText};
 ghost use Rattle.argon2_base.specs.declared.error.password_hash.Error.TheVariants.{EncodingInvalid};
-ghost use Rattle.argon2_rows.specs.Locks.{IsLine, IsStored, behind_lock, without_lock};
+ghost use Rattle.argon2_programs.specs.Locks.{without_lock};
+ghost use Rattle.argon2_rows.specs.StoredTexts.{IsLine, IsStored};
 
 use argon2_base::error::password_hash::Result;
 use argon2_base::phc::PasswordHash;
+use argon2_programs::behind_lock;
 
 /// A text as it is stored: a PHC text, or one line of another scheme. Behind `!` it is locked, and accepts no password.
 #[derive(Clone, Copy, Debug, PartialEq, Eq, PartialOrd, Ord)]
@@ -47,11 +48,4 @@ impl<'a> StoredText<'a> {
     {
         self.text
     }
-}
-
-/// What a locked text has behind its `!`.
-pub fn behind_lock(text: &str) -> Option<&str>
-    ensures { option_copied result ≡ behind_lock text.now }
-{
-    text.strip_prefix('!')
 }

@@ -5,13 +5,12 @@
 ghost use Rattle.std.specs.Prelude.{◌≡◌, false, IfErr, IfOk, IsTrue, OnOk};
 ghost use Rattle.std.specs.FinMap.{get};
 ghost use Rattle.sqlite_wal.specs.Files.{image_at};
-ghost use Rattle.argon2_policy.specs.Policy.{policy_value};
+ghost use Rattle.argon2_policy.specs.Policy.{Denies, policy_value};
 ghost use Rattle.argon2_rows.specs.Names.{Texts};
 ghost use Rattle.argon2_rows.specs.Table.{IsHonest};
 ghost use Rattle.argon2_store.specs.AccountFile.{HasNames, IsFileFrom, database_of};
-ghost use Rattle.argon2_accounts.specs.Accounts.{AdmitsName, RelatesNames, TextRefusal};
-ghost use Rattle.argon2_accounts.specs.Errors.{is_account_refusal};
-ghost use Rattle.argon2_accounts.specs.declared.error.AccountError.{AccountError};
+ghost use Rattle.argon2_accounts.specs.Accounts.{AdmitsName, RelatesNames};
+ghost use Rattle.argon2_accounts.specs.Errors.{Denial, is_account_refusal};
 
 use argon2_accounts::{AccountError, Accounts};
 use argon2_policy::Policy;
@@ -51,8 +50,8 @@ pub fn has_password<R: Rng, S: Store>(
         AdmitsName (policy_value accounts.old.policy) names name.now password.now) }
     ensures no { (names : Texts) → HasNames accounts.old.file names →
         IsHonest S.Store (database_of accounts.new.file) → IfOk result (λ yes. yes ≡ false →
-        (e : AccountError) × TextRefusal (policy_value accounts.old.policy) password.now
-        (get names name.now) e) }
+        (why : Denial) × Denies (policy_value accounts.old.policy) password.now
+        (get names name.now) why) }
     ensures failed { IfErr result (λ e. is_account_refusal e ≡ false) }
 {
     match accounts.log_in(rng, name, password) {

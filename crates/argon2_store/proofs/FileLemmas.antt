@@ -1,11 +1,12 @@
 -- What a call on an account file does if it is refused, writes nothing, or makes its edits.
 use Rattle.argon2_store.proofs.Imports.{arith, zero, suc, ◌≡◌, ◌⊎◌, ◌<◌, ◌∷◌, [], inl, inr, ℕ, List, Option, Some, None, Result, Ok, Err, Bool, true, false, refl, sym, ◌∙◌, ap}
-use Rattle.argon2_store.proofs.Imports.{IsTrue, get, Any, HasFailed, option_map, string_bytes, ◌↔◌, IfErr, IsErrAnd, IsSomeAnd, OnOk, length, length-map, get_or-map}
+use Rattle.argon2_store.proofs.Imports.{IsTrue, get, Any, HasFailed, ◌↔◌, IfErr, IsErrAnd, IsSomeAnd, OnOk, length, length-map, get_or-map, ◌≤◌}
 use Rattle.argon2_store.proofs.Imports.{quiet_itself, StoreError, Ghosts, Texts, IfOk, IfSome, AddsNames, on_ok_weaker, Answers, error_of, IsClosed, IsErrorAt, Makes, Serves, AddsAll}
 use Rattle.argon2_store.proofs.Imports.{IsFirstTaken, Stays, database_of, read_of, call_error, Changes, IsHonest, IsLong, IsOpen, CrashLeaves, StaysQuiet, changed, AccountFile, FileError}
-use Rattle.argon2_store.proofs.Imports.{Closed, NameTaken, OutOfMemory, String, Edit, adding, IsTooLong, additions, gives, is_refusal, names_after, name_of, refusal, HasCause}
+use Rattle.argon2_store.proofs.Imports.{Closed, NameTaken, OutOfMemory, AddsShortName, NamedEdit, adding, named_edit, IsTooLong, additions, gives, is_refusal, names_after, name_of, refusal, HasCause}
 use Rattle.argon2_store.proofs.Imports.{HasFailedBy, HasNames, NamesStay, lines_by, read_by, IsTold, both_ways, changed_back, Keeps, Settled, err_is, shape_of, leaves_quiet, on_all}
 use Rattle.argon2_rows.specs.declared.view.Written.{Written}
+use Rattle.argon2_store.specs.declared.edit.Edit.{Edit}
 use Rattle.sqlite_trees.specs.View.{HasCause as Cause, View}
 
 module _ {S : Type 0} {g : Ghosts S} where
@@ -89,7 +90,7 @@ stays_left : {S : Type 0} (g : Ghosts S) {s : S} {names : Texts} {Q : Texts → 
 stays_left g leaves db found = let (names, held, is) = leaves db found in (names, held, inl is)
 
 -- a call that leaves the names
-pub ends_with : {S : Type 0} {g : Ghosts S} {edits : List Edit} {old new : AccountFile S g} {before : Texts}
+pub ends_with : {S : Type 0} {g : Ghosts S} {edits : List NamedEdit} {old new : AccountFile S g} {before : Texts}
     (r : Result (Unit {0}) FileError) → HasNames new before → StaysQuiet g (database_of old) (database_of new)
     → (IsTrusted new → IsOpen g (database_of old) → CrashLeaves g (database_of new) (λ left. left ≡ before))
     → (IsTrusted new → Answers before edits r before)
@@ -104,7 +105,7 @@ ends_with {g = g} {edits} {old} {new} {before} r has quiet left answers closed c
 -- A call on a file that is not closed, which has read it.
 module _ {S : Type 0} {g : Ghosts S} {old mid : AccountFile S g} {before : Texts} (reads : Stays None before old mid) where
   -- the end of a call that changes the names, or leaves them
-  ends : {edits : List Edit} {other : Type 0} {new : AccountFile S g} {to : Texts} {done : Result (Unit {0}) StoreError}
+  ends : {edits : List NamedEdit} {other : Type 0} {new : AccountFile S g} {to : Texts} {done : Result (Unit {0}) StoreError}
       → Changes g (database_of mid) (database_of new) before to other done
       → (r : Result (Unit {0}) FileError) (after : Texts) → HasNames new after → (IsTrusted new → Answers before edits r after)
       → IfErr r (λ e. IsTrue (is_refusal e) → StaysQuiet g (database_of old) (database_of new))
@@ -119,7 +120,7 @@ module _ {S : Type 0} {g : Ghosts S} {old mid : AccountFile S g} {before : Texts
       search (arith, change.honest)
 
   -- edits are made, or the names stay as they were
-  pub writes_all : {edits : List Edit} {long : Type 0} {new : AccountFile S g} {to : Texts}
+  pub writes_all : {edits : List NamedEdit} {long : Type 0} {new : AccountFile S g} {to : Texts}
       → (IsTrusted new → long → Any (IsTooLong before) edits) → (IsTrusted new → (to ≡ before) ⊎ (names_after edits before ≡ Ok to))
       → (done : Result (Unit {0}) StoreError) → OnOk done (IsTrusted new → names_after edits before ≡ Ok to)
       → Changes g (database_of mid) (database_of new) before to long done
@@ -150,51 +151,70 @@ module _ {S : Type 0} {g : Ghosts S} {old mid : AccountFile S g} {before : Texts
       (λ clean. elim (may clean) [ inl same ↦ inl same | inr adds ↦ inr (adds_made es before to adds) ]) done
       (on_ok_weaker done (λ f clean. adds_made es before to (f clean)) all) change r is
 
+pub name_of-named_edit : (name : List ℕ) (edit : Edit) → name_of (named_edit name edit) ≡ name
+name_of-named_edit name edit = grind arith
+
 -- An edit of a name that has this text or none, in a file that was read and is not closed.
-module _ {S : Type 0} {g : Ghosts S} {edit : Edit} {old mid : AccountFile S g} (reads : NamesStay None old mid)
-    {Z : Type 0} {text o : Option (String Z)} (is : text ≡ o)
-    (shows : (names : Texts) → HasNames mid names → IsTrusted mid → get names (name_of edit) ≡ option_map string_bytes text) where
+module _ {S : Type 0} {g : Ghosts S} {edit : NamedEdit} {text : Option (List ℕ)} {old mid : AccountFile S g}
+    (reads : NamesStay None old mid)
+    (shows : (names : Texts) → HasNames mid names → IsTrusted mid → get names (name_of edit) ≡ text) where
   -- one that writes nothing
-  unwritten : (r : Result (Unit {0}) FileError)
-      → ((before : Texts) → get before (name_of edit) ≡ option_map string_bytes o → Answers before (edit ∷ []) r before)
+  unwritten : {new : AccountFile S g} → database_of new ≡ database_of mid → (r : Result (Unit {0}) FileError)
+      → ((before : Texts) → get before (name_of edit) ≡ text → Answers before (edit ∷ []) r before)
       → ((closed long : Type 0) (fault : StoreError → Type 0) → IfErr r (HasCause closed fault long))
-      → Serves (edit ∷ []) r old mid
-  unwritten r answers cause before has =
-      let read = reads before has in
-      (before, ends_with r read.has read.quiet read.left (grind arith) (grind arith) (search (arith, cause)))
+      → Serves (edit ∷ []) r old new
+  unwritten same r answers cause before has =
+      let read = reads before has in (
+        before,
+        ends_with r (rw same read.has) (rw same read.quiet) (rw same read.left) (grind arith) (grind arith)
+            (search (arith, cause)),
+      )
 
   -- one that is refused
-  pub refuses : {e : FileError} → refusal edit (option_map string_bytes o) ≡ Some e → Serves (edit ∷ []) (Err e) old mid
-  refuses {e} why = unwritten (Err e) (grind arith) (grind arith)
+  pub refuses : {e : FileError} {r : Result (Unit {0}) FileError} → refusal edit text ≡ Some e → IsErrAnd r (λ f. f ≡ e)
+      → Serves (edit ∷ []) r old mid
+  refuses {e} why failed = rw (err_is _ _ failed) (unwritten refl (Err e) (grind arith) (grind arith))
 
   -- one that there is no memory for
-  pub fails_after : {r : Result (Unit {0}) FileError} → IsErrAnd r (λ e. e ≡ OutOfMemory) → Serves (edit ∷ []) r old mid
-  fails_after failed = rw (err_is _ _ failed) (unwritten (Err OutOfMemory) (grind arith) (grind arith))
+  pub fails_after : {new : AccountFile S g} {r : Result (Unit {0}) FileError} → database_of new ≡ database_of mid
+      → IsErrAnd r (λ e. e ≡ OutOfMemory) → Serves (edit ∷ []) r old new
+  fails_after same failed = rw (err_is _ _ failed) (unwritten same (Err OutOfMemory) (grind arith) (grind arith))
 
   -- one that leaves the text
-  pub accepts : refusal edit (option_map string_bytes o) ≡ None
-      → gives edit (option_map string_bytes o) ≡ option_map string_bytes o → Serves (edit ∷ []) (Ok tt) old mid
-  accepts none same = unwritten (Ok tt) (λ before had. rw (had, none, same)
+  pub accepts : {new : AccountFile S g} → database_of new ≡ database_of mid → refusal edit text ≡ None → gives edit text ≡ text
+      → Serves (edit ∷ []) (Ok tt) old new
+  accepts same none is = unwritten same (Ok tt) (λ before had. rw (had, none, is)
       (ap Ok (changed_back before before (name_of edit) _ (λ q far. refl) had))) (grind arith)
 
   -- one that is written
-  pub writes : {new : AccountFile S g} (p : Option (List ℕ)) → refusal edit (option_map string_bytes o) ≡ None
-      → gives edit (option_map string_bytes o) ≡ p → {done : Result (Unit {0}) StoreError}
+  pub writes : {new : AccountFile S g} → refusal edit text ≡ None → {done : Result (Unit {0}) StoreError}
       → ((names : Texts) → HasNames mid names → Changes g (database_of mid) (database_of new) names
-      (changed names (name_of edit) p) (IsSomeAnd p (λ text. IsLong (name_of edit, text))) done)
+      (changed names (name_of edit) (gives edit text))
+      (IsSomeAnd (gives edit text) (λ text. IsLong (name_of edit, text))) done)
       → {r : Result (Unit {0}) FileError} → r ≡ read_of done → Serves (edit ∷ []) r old new
-  writes {new} p none given {done} change {r} e before has =
+  writes {new} none {done} change {r} e before has =
       let read = reads before has in
       let wrote = change before read.has in
-      let had : IsTrusted new → get before (name_of edit) ≡ option_map string_bytes o = λ clean.
-      shows before read.has (wrote.honest clean) ∙ ap (option_map string_bytes) is in
-      let all : IsTrusted new → names_after (edit ∷ []) before ≡ Ok (changed before (name_of edit) p) = grind arith in
+      let had : IsTrusted new → get before (name_of edit) ≡ text = λ clean. shows before read.has (wrote.honest clean) in
+      let all : IsTrusted new → names_after (edit ∷ []) before ≡ Ok (changed before (name_of edit) (gives edit text)) =
+      grind arith in
       let within : 0 < length (edit ∷ []) = omega arith in
-      writes_all read (λ clean long. (0, edit, within, refl, rw (had clean, given) long)) (λ clean. inr (all clean)) done
+      writes_all read (λ clean long. (0, edit, within, refl, rw (had clean) long)) (λ clean. inr (all clean)) done
       (on_all done all) wrote r e
 
+-- a new name is no longer than it may be, if its row is written
+pub adds_short : (edit : NamedEdit) (text : Option (List ℕ)) (done result : Result (Unit {0}) StoreError)
+    {r : Result (Unit {0}) FileError} → refusal edit text ≡ None
+    → (text ≡ None → OnOk done (length (name_of edit) ≤ 4096)) → IfErr done (λ e. result ≡ Err e) → r ≡ read_of result
+    → OnOk r (AddsShortName edit)
+adds_short edit text done result none short failed is = grind arith
+
+pub stays_short : (edit : NamedEdit) (text : Option (List ℕ)) → refusal edit text ≡ None → gives edit text ≡ text
+    → AddsShortName edit
+stays_short edit text none same = grind arith
+
 -- a call on a file that can't be read
-pub cannot_serve : {S : Type 0} {g : Ghosts S} {edits : List Edit} {old mid : AccountFile S g} {e : FileError}
+pub cannot_serve : {S : Type 0} {g : Ghosts S} {edits : List NamedEdit} {old mid : AccountFile S g} {e : FileError}
     {r : Result (Unit {0}) FileError} → NamesStay (Some e) old mid → IsErrAnd r (λ f. f ≡ e) → Serves edits r old mid
 cannot_serve {e = e} stays is before has =
     let reads = stays before has in

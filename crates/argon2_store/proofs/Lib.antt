@@ -1,4 +1,5 @@
 pub mod FileLemmas
+pub mod FormatLemmas
 pub mod Imports
 pub mod NextOpenLemmas
 pub mod OpenLemmas

@@ -4,6 +4,10 @@ use Rattle.argon2_store.proofs.Imports.{AreWhole, Image, IsBlankFile, Recovers, 
 use Rattle.argon2_store.proofs.Imports.{StandsFor, account, ◌≤◌, length, slice_index, unwrap_or, cases_eq, part, IsIgnored, Replays}
 use Rattle.argon2_store.proofs.Imports.{part_within, slice_index-part, range_with_len, length-map, reserved, sealed, stored_size, length-sealed, recovers_once}
 use Rattle.argon2_store.proofs.Imports.{Index, recovers, same_listing, Texts, HoldsNames, IsAfterOpens, LeavesNames, HoldsTable, Table, catalog, rows_of-once}
+use Rattle.argon2_store.proofs.Imports.{Bool, true, false, IsUnwritten, HasRows, over_file, view, AreSound, AreTexts, AreLines, AreHeld, HoldSoundly, map, no_doubt, IsClean, rows_of, doubt}
+use Rattle.argon2_rows.specs.Rows.{row_of}
+use Rattle.std.specs.FinMap.{entries-from_sorted, from_sorted, get-from_sorted}
+use Rattle.sqlite_trees.proofs.Doubt.{never_clean}
 use Rattle.sqlite_disk.specs.declared.Disk.{Ghosts}
 use Rattle.sqlite_store.specs.Listing.{all_trees, all_reals, all_shapes, listed_from, file_trees}
 use Rattle.sqlite_wal.proofs.RecoveryLemmas.{recovers_once as raw_once, replays_once}
@@ -21,7 +25,7 @@ use Rattle.sqlite_pool.proofs.ResealLemmas.{adopts_of}
 use Rattle.sqlite_btree.proofs.StoredLemmas.{stored_root_live}
 use Rattle.sqlite_store.specs.Catalog.{describes, is_about, root_in}
 use Rattle.sqlite_store.specs.Db.{roots_of, trees_in, rows_at, IsFile}
-use Rattle.argon2_store.proofs.OpenLemmas.{left_table, stands_for}
+use Rattle.argon2_store.proofs.OpenLemmas.{kept_of, left_table, stands_for}
 use Rattle.sqlite_wal.specs.Recovery as raw
 use Rattle.sqlite_value.specs.contracts.row.Row as row
 
@@ -221,6 +225,54 @@ pub near_found : (img : Image) (rows : List Row) → FoundIn 4096 img rows → N
 near_found img rows (inl (pages, recs, file, is, one)) = ∥∥₁_elim file (Near-prop rows img) (λ file.
     near_rows img rows (inl (4096, account ∷ [], pages, (omega arith, omega arith, refl, refl), recs, file, refl, is)))
 near_found img rows (inr (none, is)) = ∥∥₁_elim none (Near-prop rows img) (λ unbegun. near_rows img rows (inr (unbegun, is)))
+
+-- files that hold names soundly: an open finds the rows of these
+sound_rows : (img : Image) (names : Texts) → HoldSoundly img names → (rows : List Row) → FoundIn 4096 img rows → rows ≡ rows_of names
+sound_rows img names (texts, lines, inl (pages, recs, file, is)) rows found =
+    (near_rows img (rows_of names) (inl (4096, account ∷ [], pages, (omega arith, omega arith, refl, refl), recs, file, refl, is))).0 rows found
+sound_rows img names (texts, lines, inr (unbegun, is)) rows found = (near_rows img (rows_of names) (inr (unbegun, is))).0 rows found
+
+pub sound_of : (img : Image) (names : Texts) → HoldSoundly img names → AreSound img
+sound_of img names (texts, lines, inl (pages, recs, file, is)) = inl (pages, recs, file)
+sound_of img names (texts, lines, inr (unbegun, is)) = inr unbegun
+
+abbrev no_names : Texts
+no_names = from_sorted []
+
+no_texts : AreTexts no_names
+no_texts name text has = let e = sym (get-from_sorted _ [] name tt) ∙ has in absurd cc
+
+no_lines : AreLines no_names
+no_lines name text has = let e = sym (get-from_sorted _ [] name tt) ∙ has in absurd cc
+
+-- the names of files that are known to be sound, unless the disk lied
+pub names_held : (clean : Bool) (img : Image) (rows : List Row) → (doubt clean ≡ 0 → AreHeld img)
+    → (doubt clean ≡ 0 → FoundIn 4096 img rows)
+    → (names : Texts) × AreTexts names × AreLines names × (doubt clean ≡ 0 → rows ≡ rows_of names)
+names_held true img rows held found =
+    let now = no_doubt true refl in
+    let it = held now in
+    (it.0, it.1.0, it.1.1, λ clean. sound_rows img it.0 it.1 rows (found now))
+names_held false img rows held found = (no_names, no_texts, no_lines, λ clean. absurd (never_clean clean))
+
+-- files without a byte, for which `Wary` stands, hold no names
+pub empty_held : AreHeld (record { log = []; db = [] })
+empty_held = (no_names, (no_texts, no_lines, inr (inl (inl refl), ap (map row_of) (entries-from_sorted _ [] tt))))
+
+-- a store that was opened on such files has their names
+pub has_held : {D : Type 0} {g : Ghosts D} (it : FileStore D g) (img : Image)
+    → (IsClean (view it) → AreHeld img)
+    → (IsClean (view it) → IsUnwritten (view it) × FoundIn 4096 img ((view it).committed 0))
+    → (names : Texts) × HasRows over_file it names × AreLines names × (IsClean (view it) → HoldsNames img names)
+has_held it img held opened =
+    let (names, texts, lines, rows) = names_held (view it).is_clean img ((view it).committed 0) held (λ clean. (opened clean).1) in (
+      names,
+      (texts, kept_of it names (λ clean. (opened clean).0) rows),
+      lines,
+      λ clean. (texts, subst (FoundIn 4096 img) (rows clean) (opened clean).1),
+    )
+
+-- ---- one more open that failed
 
 pub leaves_names : {D : Type 0} (g : Ghosts D) (old new : D × D) → LeavesNames g old new
 leaves_names g old new synced unharmed clean left may opens before after =

@@ -3,7 +3,8 @@ use Rattle.argon2_store.proofs.Imports.{◌≡◌, ℕ, Bool, List, [], ◌∷�
 use Rattle.argon2_store.proofs.Imports.{outcomes, seen_image, Image, IsBlankFile, RecoversAs-from, readable, trimmed_whole, clean_if_left, clean_is, size_is_allowed}
 use Rattle.argon2_store.proofs.Imports.{clean_of, no_doubt, catalog_tree, Trees, IsClean, not_broken, settled_at, SeenMayStay, files, reading, schema_in, schema_of}
 use Rattle.argon2_store.proofs.Imports.{state, view, catalog_rows, files_of, image, state_of, wanted_by, FileStore, AreUnharmed, FoundIn, IsTableOf, IsUnstarted}
-use Rattle.argon2_store.proofs.Imports.{MayHave, StandsFor, account, IsUnwritten, recovers, AreClean, OnlyReads, IsOfDatabase, IsDamaged, IsOfDamage, IsOfPair}
+use Rattle.argon2_store.proofs.Imports.{MayHave, StandsFor, account, IsUnwritten, recovers, AreClean, OnlyReads, IsOfDatabase, HasOtherFormat, HasVersion, IsDamaged, IsOfDamage, IsOfFormat, IsOfPair, ◌≢◌, PageMap, Recovers}
+use Rattle.sqlite_wal.specs.Reads.{OnlyReadsBoth}
 use Rattle.sqlite_disk.specs.declared.Disk.{Ghosts}
 use Rattle.sqlite_pool.specs.Pool.{files as pool_files, state as pool_state}
 use Rattle.sqlite_store.proofs.BuildLemmas.{new_is_empty}
@@ -14,6 +15,9 @@ use Rattle.sqlite_store.specs.Listing.{all_shapes, all_trees, listed_from}
 use Rattle.sqlite_store.specs.declared.store.open.Unopened.{Unopened}
 use Rattle.argon2_rows.specs.Table.{catalog}
 use Rattle.sqlite_store.specs.Unopened as below
+use Rattle.sqlite_store.specs.Db.{rows_at, IsFile}
+use Rattle.sqlite_pool.specs.File.{in_use}
+use Rattle.argon2_store.proofs.Imports.{false, halves, recovers_once, length, Table, AreSound, IsKept, Texts, over_file, rows_of}
 
 -- ---- a store that is ready
 
@@ -22,6 +26,17 @@ pub fresh : {D : Type 0} {g : Ghosts D} (it : FileStore D g) → IsReady it → 
 unfolding catalog all_shapes
 fresh it ready is clean = search (arith, clean_of, catalog_rows)
 
+-- it has these names
+pub kept_of : {D : Type 0} {g : Ghosts D} (it : FileStore D g) (names : Texts) → (IsClean (view it) → IsUnwritten (view it))
+    → (IsClean (view it) → (view it).committed 0 ≡ rows_of names) → IsKept over_file it names
+kept_of it names unwritten rows = record {
+  indexed = λ clean _. (unwritten clean).indexed;
+  shapes = λ clean _. (unwritten clean).shapes;
+  sound = λ clean _. (unwritten clean).unbroken;
+  seen = λ clean _. (ap (λ (t : Trees). t 0) (unwritten clean).settled ∙ rows clean, (unwritten clean).listed);
+  committed = λ clean _. (rows clean, ap (λ (t : Trees). t catalog_tree) (sym (unwritten clean).settled) ∙ (unwritten clean).listed);
+}
+
 -- ---- an open that fails
 
 -- what stands for two files, if more images do
@@ -29,16 +44,24 @@ pub stands_for : (was first : Image → Type 0) (i left : Image) → ((l : Image
     → StandsFor first i left
 stands_for was first i left within stands = grind arith
 
--- the log was read before
-pub seen_same : {D : Type 0} {g : Ghosts D} {old mid : D} (db : D) → OnlyReads g old mid
-    → seen_image g mid db ≡ seen_image g old db
-seen_same db reads = search arith
+-- the log was read, and then both files
+pub reads_both : {D : Type 0} {g : Ghosts D} {log db mid new_log new_db : D} → OnlyReads g log mid → OnlyReads g mid new_log
+    → OnlyReads g db new_db → OnlyReadsBoth g (log, db) (new_log, new_db)
+reads_both first later also = (search arith, also)
 
-pub unharmed_then : {D : Type 0} {g : Ghosts D} {old mid : D} (db : D) (new : D × D) → OnlyReads g old mid
-    → AreUnharmed g (mid, db) new → AreUnharmed g (old, db) new
-unharmed_then {g = g} {old} {mid} db new reads unharmed clean left may =
-    subst (λ i. StandsFor (outcomes g old db) i left) (seen_same db reads) (stands_for (outcomes g mid db) (outcomes g old db) _ left
-    (λ l out. (reads.crash l.log out.0, out.1)) (unharmed clean left may))
+-- the files were read before
+pub seen_same : {D : Type 0} {g : Ghosts D} {old mid : D × D} → OnlyReadsBoth g old mid
+    → seen_image g mid.0 mid.1 ≡ seen_image g old.0 old.1
+seen_same reads = search arith
+
+pub clean_before : {D : Type 0} {g : Ghosts D} {old mid : D × D} → OnlyReadsBoth g old mid → AreClean g mid.0 mid.1 → AreClean g old.0 old.1
+clean_before {g = g} reads clean = let both = halves g _ _ clean in grind (arith, reads.0.clean both.0, reads.1.clean both.1)
+
+pub unharmed_then : {D : Type 0} {g : Ghosts D} {old mid : D × D} (new : D × D) → OnlyReadsBoth g old mid → AreUnharmed g mid new
+    → AreUnharmed g old new
+unharmed_then {g = g} {old} {mid} new reads unharmed clean left may =
+    subst (λ i. StandsFor (outcomes g old.0 old.1) i left) (seen_same reads) (stands_for (outcomes g mid.0 mid.1) (outcomes g old.0 old.1) _ left
+    (λ l out. (reads.0.crash l.log out.0, reads.1.crash l.db out.1)) (unharmed clean left may))
 
 module _ {D : Type 0} {g : Ghosts D} (old : Unopened D g) (sized : (state_of old).page_size ≡ 4096) (left : Image) where
   pub as_before : below.IsAsBefore old left → StandsFor (state_of old).may_leave (image old) left
@@ -68,6 +91,20 @@ module _ {D : Type 0} {g : Ghosts D} (old mid : Unopened D g) (rows : List Row) 
   pub bare : rows ≡ [] → ∥ IsUnstarted (state_of old).page_size (image old) ∥₁
   bare none = ∥∥₁_map listed.shows.clean.sound (λ sound.
       inr (listed.pages, listed.found, subst₂ IsSoundFile sized listed.shows.committed sound, sym listed.lists ∙ none))
+
+  -- files that are known to be sound, and list the table, are a file of it
+  pub has_file : (state_of old).page_size ≡ 4096 → wanted_by mid ≡ account ∷ [] → length rows ≡ 1
+      → ¬ IsBlankFile 4096 (image old) → AreSound (image old) → below.HasFile mid
+  has_file is_page wants one begun (inl (pages, recs, file)) =
+      let same = recovers_once 4096 (image old) _ _ recs (rw is_page at listed.found) in
+      let size = sized ∙ is_page in
+      (listed.pages, rw sized listed.again, rw (size, wants) (subst (IsFile 4096 (account ∷ [])) same file))
+  has_file is_page wants one begun (inr (inl blank)) = absurd (begun blank)
+  has_file is_page wants one begun (inr (inr (pages, recs, sound, none))) =
+      let same = recovers_once 4096 (image old) _ _ recs (rw is_page at listed.found) in
+      let rows_none = subst (λ p. rows_at 4096 (in_use 4096 p) Table 1 ≡ []) same none in
+      let here = rw is_page at listed.lists in
+      absurd (omega (arith, one, ap length (here ∙ rows_none)))
 
   pub after : below.Opens old (state_of mid) → (left : Image) → below.IsAsBefore mid left → below.IsAsBefore old left
   after opens left is = record {
@@ -104,6 +141,13 @@ module _ {D : Type 0} {g : Ghosts D} where
         → (AreClean g mid_log mid_db → (IsTrue b ↔ IsBlankFile size (seen_image g log db)))
         → IsTrue b → IsTrue (state_of it).is_clean → IsBlankFile (state_of it).page_size (image it)
     probed b size sized probe new clean = search (arith, image_is, is_clean)
+
+    -- so do they if it says that there is a database
+    pub there : (b : Bool) (size : ℕ) → b ≡ false
+        → (AreClean g mid_log mid_db → (IsTrue b ↔ IsBlankFile size (seen_image g log db)))
+        → IsTrue (state_of it).is_clean → ¬ IsBlankFile size (image it)
+    there b size none probe clean blank =
+        let is = (probe (is_clean it.pool (mid_log, mid_db) same clean)).1 (subst (IsBlankFile size) image_is blank) in absurd cc
 
     pub unharmed : (state_of it).page_size ≡ 4096 → (end : Unopened D g) (new : D × D) → new ≡ files_of end
         → ((state_of it).page_size ≡ 4096 → IsTrue (state_of end).is_clean → IsTrue (state_of it).is_clean
@@ -152,6 +196,22 @@ unharmed_by_reads old it end new stay quiet opened closed clean left may =
     ))
 
 -- an error of the database says nothing of the names
-pub of_database : {D : Type 0} {g : Ghosts D} {old new : D × D} {e : OpenError} → IsOfDatabase e
-    → (AreClean g new.0 new.1 → IsDamaged (g.seen old.0) → IsOfDamage g old.0 new.0 e) → AreUnharmed g old new → IsOfPair g old new e
-of_database of damage unharmed = grind arith
+pub of_database : {D : Type 0} {g : Ghosts D} {old new : D × D} (e : OpenError) → IsOfDatabase e
+    → (AreClean g new.0 new.1 → IsDamaged (g.seen old.0) → IsOfDamage g old.0 new.0 e)
+    → (AreClean g new.0 new.1 → (n : ℕ) → HasOtherFormat (seen_image g old.0 old.1) n → IsOfFormat n e)
+    → AreUnharmed g old new → IsOfPair g old new e
+of_database e of damage other unharmed = record {
+  kind = inr (inr (inr of));
+  row = λ is. absurd (subst IsOfDatabase is of);
+  damaged = λ is. absurd (subst IsOfDatabase is of);
+  damage = damage;
+  format = λ n is. absurd (subst IsOfDatabase is of);
+  other = other;
+  unharmed = unharmed;
+}
+
+-- the header that was read has the number of this release's format, so the files recover to no database with another one
+pub no_other : (held : Image) (format : ℕ) → format ≡ 0 → ((pages : PageMap) → Recovers 4096 held pages
+    → (format ≢ 0 → HasVersion pages format) × ((m : ℕ) → m ≢ 0 → HasVersion pages m → format ≡ m))
+    → (n : ℕ) → ¬ HasOtherFormat held n
+no_other held format is found n has = has.0 (sym ((found has.1.0 has.1.1).1 n has.0 has.1.2) ∙ is)

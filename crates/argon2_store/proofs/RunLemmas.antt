@@ -1,6 +1,6 @@
 -- What calls make of a file, and what an open finds after them.
 use Rattle.argon2_store.proofs.Imports.{arith, ◌≡◌, ◌⊎◌, ℕ, List, [], ◌∷◌, ◌++◌, Result, Ok, Err, inl, inr, refl, sym, subst, ◌∙◌, append_assoc, cases_Bool, empty, get, ∥∥₁_elim}
-use Rattle.argon2_store.proofs.Imports.{∥∥₁_map, flat_map, SeenMayStay, settled_at, FileStore, Trees, Ghosts, bytes_eq-Decides, Answers, Texts, IsClosed, database_of, Edit}
+use Rattle.argon2_store.proofs.Imports.{∥∥₁_map, flat_map, SeenMayStay, settled_at, FileStore, Trees, Ghosts, bytes_eq-Decides, Answers, Texts, IsClosed, database_of, NamedEdit}
 use Rattle.argon2_store.proofs.Imports.{gives, left_by, names_after, name_of, is_refusal, AreEventsOf, AreMade, Did, Does, EndsRun, FileEvent, FileCall, IsFoundAfter, IsLate}
 use Rattle.argon2_store.proofs.Imports.{IsLateOf, IsShutOut, FileRun, events_of, makes, text_by, over_file, reads, IsHonest, IsOpen, CrashLeaves, AccountFile, FileError, HasNames, IsReady}
 use Rattle.argon2_store.proofs.Imports.{Settled, IsTableOf, get-at, rows_of-once, get-empty}
@@ -15,7 +15,7 @@ run_then : (first mid last : Texts) (newer older : List FileEvent) → AreMade f
 run_then first mid last [] older earlier later = rw later earlier
 run_then first mid last (event ∷ newer) older earlier later = (later.0, run_then _ mid later.0 newer _ earlier later.1, later.2)
 
-texts_after : (edits : List Edit) (names after : Texts) → names_after edits names ≡ Ok after → (name : List ℕ)
+texts_after : (edits : List NamedEdit) (names after : Texts) → names_after edits names ≡ Ok after → (name : List ℕ)
     → get after name ≡ left_by name edits (get names name)
 texts_after [] names after is name = cc
 texts_after (edit ∷ edits) names after is name =
@@ -33,7 +33,7 @@ texts_of_events ((edits, Err e) ∷ older) names (before, earlier, step) name = 
 -- ---- calls
 
 -- what a call made of the names
-its_events : (before after : Texts) (edits : List Edit) (result : Result (Unit {0}) FileError) → Answers before edits result after
+its_events : (before after : Texts) (edits : List NamedEdit) (result : Result (Unit {0}) FileError) → Answers before edits result after
     → AreMade before (events_of (makes edits result)) after
 its_events before after edits (Ok x) is = (before, refl, is)
 its_events before after edits (Err e) is =

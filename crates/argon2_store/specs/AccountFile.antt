@@ -6,14 +6,14 @@ use Rattle.argon2_rows.specs.Rows.{AreLines, AreWritten}
 use Rattle.argon2_rows.specs.Table.{HasFailed, HasRows, IsHonest, IsOpen, IsTold, CrashLeaves, StaysQuiet, StoreError, Ghosts}
 use Rattle.argon2_rows.specs.declared.view.View.{View}
 use Rattle.argon2_rows.specs.declared.view.Written.TheVariants as written
-use Rattle.argon2_store.specs.Edits.{Edit, IsTooLong, names_after}
+use Rattle.argon2_store.specs.Edits.{NamedEdit, IsTooLong, names_after}
 use Rattle.argon2_store.specs.Errors.{is_refusal, FileError, LineError, Breaks, File, Write, NameTaken, Io, Damaged, Full, TooLong, Closed}
-use Rattle.argon2_store.specs.Opening.{HoldsNames, IsDamaged, Image}
+use Rattle.argon2_store.specs.Opening.{HasOtherFormat, HoldsNames, IsDamaged, Image}
 pub use Rattle.argon2_store.specs.declared.account_file.AccountFile.{AccountFile}
 
 -- What a call answers that is to make these edits, and the names after it. An error leaves all names as they were, and a
 -- refusal is that of the first edit that is refused.
-abbrev pub Answers : Texts → List Edit → Result (Unit {0}) FileError → Texts → Type 0
+abbrev pub Answers : Texts → List NamedEdit → Result (Unit {0}) FileError → Texts → Type 0
 Answers before edits (Ok _) after = names_after edits before ≡ Ok after
 Answers before edits (Err e) after = (IsTrue (is_refusal e) → names_after edits before ≡ Err e) × (after ≡ before)
 
@@ -74,12 +74,14 @@ module _ {S : Type 0} {g : Ghosts S} where
     pub is_open : IsHonest g (database_of file) → IsOpen g (database_of file)
     pub left : IsHonest g (database_of file) → CrashLeaves g (database_of file) (λ left. left ≡ names)
 
-  -- a file that was opened, with the names that the two files held, each with a text of one line, and not behind a damaged log
+  -- a file that was opened, with the names that the two files held, each with a text of one line, in the format that this release
+  -- knows, and not behind a damaged log
   abbrev pub IsFileFrom : Image → AccountFile S g → Type 0
   IsFileFrom image file =
       (names : Texts) × IsReady names file × AreLines names
       × (IsHonest g (database_of file) → HoldsNames image names)
       × (IsHonest g (database_of file) → ¬ IsDamaged image.log)
+      × (IsHonest g (database_of file) → (n : ℕ) → ¬ HasOtherFormat image n)
 
   -- What a call does that changes no name, with its error if it failed. The clauses on the file hold while the disk has
   -- given no wrong answer that was taken as true.
@@ -106,7 +108,7 @@ module _ {S : Type 0} {g : Ghosts S} where
 
   -- What a call does that is to make these edits, all or none. The clauses on the file hold while the disk has given no wrong
   -- answer that was taken as true.
-  pub record Makes (edits : List Edit) (result : Result (Unit {0}) FileError) (old new : AccountFile S g) (before after : Texts)
+  pub record Makes (edits : List NamedEdit) (result : Result (Unit {0}) FileError) (old new : AccountFile S g) (before after : Texts)
       : Type 0 where
     pub has : HasNames new after
     pub answers : IsHonest g (database_of new) → Answers before edits result after
@@ -127,5 +129,5 @@ module _ {S : Type 0} {g : Ghosts S} where
         → IfErr result (HasCause (IsClosed old) (HasFailedBy old new) (Any (IsTooLong before) edits))
 
   -- a call that makes these edits, all or none
-  abbrev pub Serves : List Edit → Result (Unit {0}) FileError → AccountFile S g → AccountFile S g → Type 0
+  abbrev pub Serves : List NamedEdit → Result (Unit {0}) FileError → AccountFile S g → AccountFile S g → Type 0
   Serves edits result old new = (before : Texts) → HasNames old before → (after : Texts) × Makes edits result old new before after

@@ -1,5 +1,6 @@
 -- The errors of account files.
-use Rattle.std.specs.Prelude.{ℕ, List, Bool, true, false, Option, None, Some, Result, Ok, Err, codes, ⊤}
+use Rattle.std.specs.Prelude.{ℕ, List, Bool, true, false, Option, None, Some, Result, Ok, Err, ◌++◌, codes, ⊤}
+use Rattle.std.specs.Fmt.{decimal}
 use Rattle.sqlite_std_file.specs.declared.pair.OpenError.{OpenError as PathError}
 use Rattle.sqlite_std_file.specs.declared.pair.OpenError.TheVariants as path
 use Rattle.sqlite_store.specs.declared.error.OpenError.{OpenError as FilesError}
@@ -17,7 +18,7 @@ pub use Rattle.argon2_store.specs.declared.error.LineError.{LineError}
 pub use Rattle.argon2_store.specs.declared.error.LineError.TheVariants.{Breaks, File, Write}
 pub use Rattle.argon2_store.specs.declared.error.OpenError.{OpenError}
 use Rattle.argon2_store.specs.declared.error.OpenError.TheVariants as no
-use Rattle.argon2_store.specs.declared.error.OpenError.TheVariants.{Path, Busy, HotJournal, LogWithoutFile, LogOfAnother, NotAccounts}
+use Rattle.argon2_store.specs.declared.error.OpenError.TheVariants.{Path, Busy, HotJournal, LogWithoutFile, LogOfAnother, Format, NotAccounts}
 
 -- what an error of the store is called
 abbrev pub file_error : StoreError → FileError
@@ -115,5 +116,7 @@ open_error_text no.OutOfMemory = Some (codes "out of memory")
 open_error_text no.Io = Some (codes "the disk failed")
 open_error_text no.Full = Some (codes "the disk or the file is full")
 open_error_text no.DamagedLog = Some (codes "the log is damaged")
+open_error_text (Format n) = Some
+    (codes "the file has format " ++ decimal n ++ codes ", not 0: use the release that made it, or export with that and import")
 open_error_text NotAccounts = Some (codes "the file does not hold accounts")
 open_error_text no.Row = Some (codes "a row is not a name with a text")

@@ -1,5 +1,5 @@
 -- What opening a file finds.
-use Rattle.std.specs.Prelude.{◌≡◌, ◌⊎◌, ◌≤◌, ℕ, List, [], ◌∷◌, length, slice_index, IsTrue}
+use Rattle.std.specs.Prelude.{◌≡◌, ◌≢◌, ◌⊎◌, ◌≤◌, ⊤, ℕ, List, [], ◌∷◌, ◌++◌, codes, length, slice_index, take, IsTrue}
 pub use Rattle.sqlite_value.specs.Order.{Row}
 use Rattle.sqlite_disk.specs.declared.Disk.{Ghosts}
 use Rattle.sqlite_disk.specs.Disk.{MoreFaults, Only}
@@ -9,7 +9,7 @@ pub use Rattle.sqlite_pool.specs.Stored.{IsUnreadable, Recovers, RecoversAs, sto
 pub use Rattle.sqlite_store.specs.Listing.{file_trees, listed_from}
 pub use Rattle.sqlite_store.specs.declared.catalog.Wanted.{Wanted}
 pub use Rattle.sqlite_store.specs.Db.{IsFile, rows_at}
-pub use Rattle.sqlite_pool.specs.File.{IsSoundFile, in_use}
+pub use Rattle.sqlite_pool.specs.File.{IsSoundFile, header_in, in_use, version_in}
 pub use Rattle.sqlite_trees.specs.declared.store.Shape.TheVariants.{Table}
 pub use Rattle.sqlite_wal.specs.Files.{outcomes, seen_image}
 use Rattle.sqlite_wal.specs.PageSize.{IsPageSize}
@@ -41,6 +41,33 @@ FoundIn size image rows =
 -- the two files hold exactly these names with their texts
 abbrev pub HoldsNames : Image → Texts → Type 0
 HoldsNames image names = AreTexts names × FoundIn 4096 image (rows_of names)
+
+-- The files recover to a sound database whose table this is, or to none that lists a table: what an open may suppose that reads
+-- no more than it needs.
+abbrev pub AreSound : Image → Type 0
+AreSound image = ((pages : PageMap) × Recovers 4096 image pages × IsFile 4096 (account ∷ []) pages) ⊎ IsUnstarted 4096 image
+
+-- such files whose rows are those of these names, each with a text of one line
+abbrev pub HoldSoundly : Image → Texts → Type 0
+HoldSoundly image names = AreTexts names × AreLines names
+    × (((pages : PageMap) × Recovers 4096 image pages × IsFile 4096 (account ∷ []) pages
+    × (file_trees 4096 (account ∷ []) pages 0 ≡ rows_of names))
+    ⊎ (IsUnstarted 4096 image × (rows_of names ≡ [])))
+
+-- the same, of some names
+abbrev pub AreHeld : Image → Type 0
+AreHeld image = (names : Texts) × HoldSoundly image names
+
+-- ---- the format of the rows
+
+-- the pages are those of a SQLite database, with this number in the header as its user_version
+abbrev pub HasVersion : PageMap → ℕ → Type 0
+HasVersion pages n = (take 16 (header_in pages) ≡ codes "SQLite format 3" ++ 0 ∷ []) × (version_in pages ≡ n)
+
+-- The files recover to a database with this number, which says that its rows have another format. That of this release is 0, the
+-- number in each file whose program does not set it.
+abbrev pub HasOtherFormat : Image → ℕ → Type 0
+HasOtherFormat image n = (n ≢ 0) × ((pages : PageMap) × Recovers 4096 image pages × HasVersion pages n)
 
 -- ---- an open that fails
 
@@ -77,19 +104,32 @@ AreUnharmed g old new = AreClean g new.0 new.1 → (left : Image) → outcomes g
 abbrev pub IsOfDamage : {D : Type 0} → Ghosts D → D → D → OpenError → Type 0
 IsOfDamage g old new e = (e ≡ no.DamagedLog) ⊎ ((e ≡ no.Io) × MoreFaults (g.faults old) (g.faults new))
 
+-- how an open of a database with this number fails: by the format, unless the log is damaged or too long, the disk fails or
+-- memory runs out
+abbrev pub IsOfFormat : ℕ → OpenError → Type 0
+IsOfFormat n (no.Format m) = m ≡ n
+IsOfFormat n no.DamagedLog = ⊤
+IsOfFormat n no.OutOfMemory = ⊤
+IsOfFormat n no.Io = ⊤
+IsOfFormat n no.Full = ⊤
+IsOfFormat n _ = ⊥
+
 -- a crash leaves just what the two files hold
 abbrev pub AreSynced : {D : Type 0} → Ghosts D → D × D → Type 0
 AreSynced g files = Only (g.seen files.0) (g.may_leave files.0) × Only (g.seen files.1) (g.may_leave files.1)
 
--- An open of a log and a database file has failed so: the log is damaged, they hold no names with texts of one line, or it is an
--- error of the database. They are unharmed.
+-- An open of a log and a database file has failed so: the log is damaged, their rows have another format, they hold no names with
+-- texts of one line, or it is an error of the database. They are unharmed.
 pub record IsOfPair {D : Type 0} (g : Ghosts D) (old new : D × D) (e : OpenError) : Type 0 where
-  pub kind : (e ≡ no.Row) ⊎ ((e ≡ no.DamagedLog) ⊎ IsOfDatabase e)
+  pub kind : (e ≡ no.Row) ⊎ ((e ≡ no.DamagedLog) ⊎ (((n : ℕ) × (e ≡ no.Format n)) ⊎ IsOfDatabase e))
   pub row : e ≡ no.Row → AreClean g new.0 new.1 → (names : Texts) → AreLines names
       → ¬ HoldsNames (seen_image g old.0 old.1) names
   pub damaged : e ≡ no.DamagedLog
       → (IsTrue (g.is_clean new.0) → IsDamaged (g.seen old.0)) × OnlyReads g old.0 new.0 × (new.1 ≡ old.1)
   pub damage : AreClean g new.0 new.1 → IsDamaged (g.seen old.0) → IsOfDamage g old.0 new.0 e
+  pub format : (n : ℕ) → e ≡ no.Format n → OnlyReads g old.0 new.0 × OnlyReads g old.1 new.1 × (n ≢ 0)
+      × (AreClean g new.0 new.1 → (pages : PageMap) → Recovers 4096 (seen_image g old.0 old.1) pages → HasVersion pages n)
+  pub other : AreClean g new.0 new.1 → (n : ℕ) → HasOtherFormat (seen_image g old.0 old.1) n → IsOfFormat n e
   pub unharmed : AreUnharmed g old new
 
 -- Opens that failed, the newest first, with the files that each found: the first found `before`, and each left files that stand

@@ -7,7 +7,7 @@ use Rattle.sqlite_store.specs.declared.store.FileStore.{FileStore}
 use Rattle.argon2_rows.specs.Names.{Texts}
 use Rattle.argon2_rows.specs.Table.{IsHonest, Ghosts}
 use Rattle.argon2_store.specs.AccountFile.{Answers, IsReady, NamesStay, Serves, database_of, AccountFile}
-use Rattle.argon2_store.specs.Edits.{Edit, left_by}
+use Rattle.argon2_store.specs.Edits.{NamedEdit, left_by}
 use Rattle.argon2_store.specs.Errors.{is_refusal, FileError, Closed}
 use Rattle.argon2_store.specs.Opening.{HoldsNames, IsAfterOpens, IsTableOf, Image}
 use Rattle.argon2_rows.specs.Rows.{rows_of, flat_map}
@@ -15,14 +15,14 @@ use Rattle.argon2_rows.specs.Rows.{rows_of, flat_map}
 -- A call with its answer. A crash is a disk that does nothing more from then on, so a call that it cuts off is recorded
 -- with the error that it would have returned.
 pub data FileCall : Type 0 where
-  makes : List Edit → Result (Unit {0}) FileError → FileCall
+  makes : List NamedEdit → Result (Unit {0}) FileError → FileCall
   reads : Option FileError → FileCall  -- one that changes no name, with its error if it failed
 
 -- ---- what calls made, the newest first
 
 -- edits that the names answer, with the answer
 abbrev pub FileEvent : Type 0
-FileEvent = List Edit × Result (Unit {0}) FileError
+FileEvent = List NamedEdit × Result (Unit {0}) FileError
 
 abbrev pub events_of : FileCall → List FileEvent
 events_of (makes edits (Ok _)) = (edits, Ok tt) ∷ []

@@ -6,12 +6,13 @@ ghost use Rattle.argon2_rows.specs.Names.{Texts as Named, entry_of, get};
 ghost use Rattle.argon2_rows.specs.Table.{HasSome, IsHonest, IsOpen};
 ghost use Rattle.argon2_store.specs.Errors.{is_refusal, read_by};
 
+use crate::edit::{Edit, RowEdit, row_edit};
 use crate::error::{FileError, LineError, OpenError, call_error, line_result, read};
-use crate::opening::{is_damaged, open_files, open_path};
+use crate::format::check_headers;
+use crate::opening::{open_files, open_path};
 use argon2_base::phc::PasswordHash;
 use argon2_rows::rows::{load, look_up, write_rows};
-use argon2_rows::table::{AddError, undo_failed};
-use argon2_rows::text::behind_lock;
+use argon2_rows::table::{AddError, finish, insert, remove, replace, undo_failed};
 use argon2_rows::{StoredText, View};
 use sqlite_disk::{Disk, Files};
 use sqlite_std_file::{FileFrom, Start};
@@ -44,7 +45,34 @@ pub type AccountsAt<T> = AccountFile<FileStore<FileFrom<T>>>;
 
 impl<S: Store> AccountFile<S> {
     ghost use Rattle.argon2_store.specs.AccountFile.{HasNames, IsClosed, IsErrorAt, Reads, Serves, WritesLines, database_of, unindexed};
-    ghost use Rattle.argon2_store.specs.Edits.{adding, additions, locking, option_map, removing, replacing, setting, text_of, unlocking};
+    ghost use Rattle.argon2_store.specs.Edits.{AddsShortName, adding, additions, locking, named_edit, option_map, removing, replacing, setting, text_of, unlocking};
+
+    /// Edits the text of a name. Each edit has a method, which says when it is refused: [`add`](AccountFile::add),
+    /// [`set`](AccountFile::set), [`replace`](AccountFile::replace), [`remove`](AccountFile::remove),
+    /// [`lock`](AccountFile::lock) and [`unlock`](AccountFile::unlock).
+    ///
+    /// # Errors
+    /// Those of its method.
+    pub fn edit(&mut self, name: &str, edit: &Edit<'_>) -> Result<(), FileError>
+        ensures call { Serves (named_edit name.now edit.now ∷ []) result self.old self.new }
+        ensures short { OnOk result (AddsShortName (named_edit name.now edit.now)) }
+    {
+        let text = self.text_of(name)?;
+        let change = row_edit(edit, text.as_deref())?;
+        let (store, row) = (&mut self.store, &mut self.row);
+        let done = match change {
+            RowEdit::Keep => return Ok(()),
+            RowEdit::Insert(new) => insert(store, row, name, new.text().as_str()),
+            RowEdit::Replace(old, new) => replace(store, row, name, old, new.text().as_str()),
+            RowEdit::Remove(old) => remove(store, row, name, old),
+            RowEdit::Lock(old) => {
+                let locked = locked(self.alloc, old)?;
+                replace(store, row, name, old, locked.as_str())
+            }
+            RowEdit::Unlock(old, bare) => replace(store, row, name, old, bare),
+        };
+        read(finish(&mut self.store, done))
+    }
 
     /// Gives a new name a text. The name has at most 4096 bytes.
     ///
@@ -58,10 +86,7 @@ impl<S: Store> AccountFile<S> {
         ensures call { Serves (adding name.now (text_of text.now) ∷ []) result self.old self.new }
         ensures short { OnOk result (length name.now ≤ 4096) }
     {
-        if self.text_of(name)?.is_some() {
-            return Err(FileError::NameTaken);
-        }
-        read(self.write_row(name, None, Some(text.text().as_str())))
+        self.edit(name, &Edit::Add(text))
     }
 
     /// Gives a name that has a text another one, whatever text it has, also a locked one.
@@ -71,10 +96,7 @@ impl<S: Store> AccountFile<S> {
     pub fn set(&mut self, name: &str, text: &PasswordHash) -> Result<(), FileError>
         ensures { Serves (setting name.now (text_of text.now) ∷ []) result self.old self.new }
     {
-        let Some(old) = self.text_of(name)? else {
-            return Err(FileError::NameUnknown);
-        };
-        read(self.write_row(name, Some(old.as_str()), Some(text.text().as_str())))
+        self.edit(name, &Edit::Set(text))
     }
 
     /// Gives a name the text `new` if it still has the text `old`, and that is not locked. So a text that was read,
@@ -90,16 +112,7 @@ impl<S: Store> AccountFile<S> {
     pub fn replace(&mut self, name: &str, old: &str, new: &PasswordHash) -> Result<(), FileError>
         ensures { Serves (replacing name.now old.now (text_of new.now) ∷ []) result self.old self.new }
     {
-        let Some(text) = self.text_of(name)? else {
-            return Err(FileError::NameUnknown);
-        };
-        if behind_lock(text.as_str()).is_some() {
-            return Err(FileError::Locked);
-        }
-        if text.as_str() != old {
-            return Err(FileError::Changed);
-        }
-        read(self.write_row(name, Some(text.as_str()), Some(new.text().as_str())))
+        self.edit(name, &Edit::Replace(old, new))
     }
 
     /// Removes a name and its text.
@@ -109,10 +122,7 @@ impl<S: Store> AccountFile<S> {
     pub fn remove(&mut self, name: &str) -> Result<(), FileError>
         ensures { Serves (removing name.now ∷ []) result self.old self.new }
     {
-        let Some(text) = self.text_of(name)? else {
-            return Err(FileError::NameUnknown);
-        };
-        read(self.write_row(name, Some(text.as_str()), None))
+        self.edit(name, &Edit::Remove)
     }
 
     /// Locks a name: its text is kept behind `!`, and accepts no password until [`unlock`](AccountFile::unlock) or
@@ -123,14 +133,7 @@ impl<S: Store> AccountFile<S> {
     pub fn lock(&mut self, name: &str) -> Result<(), FileError>
         ensures { Serves (locking name.now ∷ []) result self.old self.new }
     {
-        let Some(text) = self.text_of(name)? else {
-            return Err(FileError::NameUnknown);
-        };
-        if behind_lock(text.as_str()).is_some() {
-            return Ok(());
-        }
-        let locked = locked(self.alloc, text.as_str())?;
-        read(self.write_row(name, Some(text.as_str()), Some(locked.as_str())))
+        self.edit(name, &Edit::Lock)
     }
 
     /// Unlocks a name: it has the text again that it had when it was locked. A text that is not locked stays as it
@@ -141,13 +144,7 @@ impl<S: Store> AccountFile<S> {
     pub fn unlock(&mut self, name: &str) -> Result<(), FileError>
         ensures { Serves (unlocking name.now ∷ []) result self.old self.new }
     {
-        let Some(text) = self.text_of(name)? else {
-            return Err(FileError::NameUnknown);
-        };
-        let Some(bare) = behind_lock(text.as_str()) else {
-            return Ok(());
-        };
-        read(self.write_row(name, Some(text.as_str()), Some(bare)))
+        self.edit(name, &Edit::Unlock)
     }
 
     /// Adds all of these new names with their texts, or none. Each name and each text has at most 4096 bytes. They are
@@ -270,6 +267,7 @@ impl<T: Start> AccountsAt<T> {
     /// - [`OpenError::LogWithoutFile`]: a log or a journal lies beside a file that is still to be made. Nothing is written.
     /// - [`OpenError::LogOfAnother`]: its log belongs to another user, who may not write the file. It is not read.
     /// - [`OpenError::DamagedLog`]: the header of its log is damaged. Nothing is written.
+    /// - [`OpenError::Format`]: its rows have another format. Nothing is written.
     /// - [`OpenError::NotAccounts`], [`OpenError::Row`]: it holds something else than accounts.
     /// - [`OpenError::Io`], [`OpenError::Full`], [`OpenError::OutOfMemory`].
     pub fn open(rt: &HostRuntime, path: &str, start: T) -> Result<AccountsAt<T>, OpenError>
@@ -277,6 +275,28 @@ impl<T: Start> AccountsAt<T> {
     {
         let (files, seed) = open_path(rt, path, start)?;
         match AccountFile::open_from(rt.alloc(), files, seed) {
+            Ok(file) => Ok(file),
+            Err((error, _)) => Err(error),
+        }
+    }
+}
+
+impl<T: Start> AccountsAt<T> {
+    ghost use Rattle.sqlite_wal.specs.Files.{image_at};
+    ghost use Rattle.argon2_store.specs.AccountFile.{IsFileFrom};
+    ghost use Rattle.argon2_store.specs.Opening.{AreHeld};
+
+    /// Opens the accounts at a path as [`open`](AccountFile::open), but supposes that the files are sound, as
+    /// [`open_sound_from`](AccountFile::open_sound_from) does.
+    ///
+    /// # Errors
+    /// Those of [`open`](AccountFile::open), but never [`OpenError::Row`].
+    pub fn open_sound(rt: &HostRuntime, path: &str, start: T) -> Result<AccountsAt<T>, OpenError>
+        requires { AreHeld (image_at T.Start) }
+        ensures { IfOk result (IsFileFrom (image_at T.Start)) }
+    {
+        let (files, seed) = open_path(rt, path, start)?;
+        match AccountFile::open_sound_from(rt.alloc(), files, seed) {
             Ok(file) => Ok(file),
             Err((error, _)) => Err(error),
         }
@@ -293,8 +313,9 @@ impl<D: Disk + Drop> AccountFile<FileStore<D>> {
     /// stands for the accounts that they held.
     ///
     /// # Errors
-    /// [`OpenError::DamagedLog`], [`OpenError::NotAccounts`], [`OpenError::Row`], [`OpenError::Io`],
-    /// [`OpenError::Full`] and [`OpenError::OutOfMemory`], as [`open`](AccountFile::open).
+    /// [`OpenError::DamagedLog`], [`OpenError::Format`], [`OpenError::NotAccounts`], [`OpenError::Row`],
+    /// [`OpenError::Io`], [`OpenError::Full`] and [`OpenError::OutOfMemory`], as [`open`](AccountFile::open). That of the
+    /// format comes before the table is looked at.
     pub fn open_from(
         alloc: Global,
         mut files: Files<D>,
@@ -305,12 +326,10 @@ impl<D: Disk + Drop> AccountFile<FileStore<D>> {
         ensures err { IfErr result (λ e.
             IsOfPair D.Disk (files.log, files.db) (e.1.log, e.1.db) e.0) }
     {
-        match is_damaged(&mut files.log) {
-            Ok(false) => {}
-            Ok(true) => return Err((OpenError::DamagedLog, files)),
-            Err(_) => return Err((OpenError::Io, files)),
+        if let Err(error) = check_headers(alloc, &mut files) {
+            return Err((error, files));
         }
-        let mut store = open_files(alloc, files, seed)?;
+        let mut store = open_files(alloc, files, seed, false)?;
         let (mut row, mut key) = (Row::new(alloc), Row::new(alloc));
         let error = match load(&mut store, &mut row, &mut key) {
             Ok(true) => {
@@ -325,6 +344,42 @@ impl<D: Disk + Drop> AccountFile<FileStore<D>> {
             Err(error) => error.into(),
         };
         Err((error, store.close()))
+    }
+}
+
+impl<D: Disk + Drop> AccountFile<FileStore<D>> {
+    ghost use Rattle.argon2_store.specs.AccountFile.{IsFileFrom};
+    ghost use Rattle.argon2_store.specs.Opening.{AreClean, AreHeld, IsOfPair, seen_image};
+
+    /// Opens files as [`open_from`](AccountFile::open_from), but supposes that they are sound, as those are that it
+    /// has opened and this crate or SQLite has changed since. It reads no row. A call that meets an unsound row
+    /// answers [`FileError::Damaged`].
+    ///
+    /// # Errors
+    /// Those of [`open_from`](AccountFile::open_from), but never [`OpenError::Row`].
+    pub fn open_sound_from(
+        alloc: Global,
+        mut files: Files<D>,
+        seed: u64,
+    ) -> Result<AccountFile<FileStore<D>>, (OpenError, Files<D>)>
+        requires usable { IsTrue (D.Disk.is_usable files.log) × IsTrue (D.Disk.is_usable files.db) }
+        requires sound { AreClean D.Disk files.log files.db →
+            AreHeld (seen_image D.Disk files.log files.db) }
+        ensures ready { IfOk result (IsFileFrom (seen_image D.Disk files.log files.db)) }
+        ensures err { IfErr result (λ e.
+            IsOfPair D.Disk (files.log, files.db) (e.1.log, e.1.db) e.0) }
+    {
+        if let Err(error) = check_headers(alloc, &mut files) {
+            return Err((error, files));
+        }
+        let store = open_files(alloc, files, seed, true)?;
+        let (row, key) = (Row::new(alloc), Row::new(alloc));
+        Ok(AccountFile {
+            store,
+            row,
+            key,
+            alloc,
+        })
     }
 }
 

@@ -156,6 +156,8 @@ pub enum OpenError {
     Full,
     /// The log beside the file is damaged: its header is not what was written, and no crash leaves it so.
     DamagedLog,
+    /// The file has another format of accounts than this release knows: its `user_version` is this number.
+    Format(u32),
     /// The file is no SQLite database, is damaged, or does not list just the table of the accounts.
     NotAccounts,
     /// A row is not a name with a text of one line, or a name has two rows.
@@ -180,6 +182,10 @@ impl fmt::Display for OpenError {
             OpenError::Io => f.write_str("the disk failed"),
             OpenError::Full => f.write_str("the disk or the file is full"),
             OpenError::DamagedLog => f.write_str("the log is damaged"),
+            OpenError::Format(number) => write!(
+                f,
+                "the file has format {number}, not 0: use the release that made it, or export with that and import"
+            ),
             OpenError::NotAccounts => f.write_str("the file does not hold accounts"),
             OpenError::Row => f.write_str("a row is not a name with a text"),
         }

@@ -20,16 +20,20 @@
 //!
 //! The table has to be spelled so, with pages of 4096 bytes, UTF-8 and no auto_vacuum, and nothing may stand
 //! beside it: no other table, view, index or trigger. An open refuses any other file as
-//! [`OpenError::NotAccounts`], also one after `ANALYZE`, which adds a table.
+//! [`OpenError::NotAccounts`], also one after `ANALYZE`, which adds a table. The `user_version` of the database says
+//! which format the rows have. It is 0, and a file with another number is refused as [`OpenError::Format`].
 #![tactic(auto)]
 
 mod account_file;
-mod changes;
+mod additions;
+mod edit;
 mod error;
+mod format;
 mod opening;
 mod runs;
 
 pub use account_file::{AccountFile, AccountsAt};
 pub use argon2_rows::{StoredText, View};
+pub use edit::Edit;
 pub use error::{FileError, LineError, OpenError};
 pub use runs::{account_file_runs, failed_open, next_run};

@@ -1,11 +1,12 @@
 //! Opening the file at a path, or making it.
 
 ghost use Rattle.std.specs.Prelude.{◌≡◌, ◌↔◌, true, false, IsTrue, IfErr, IfOk};
-ghost use Rattle.sqlite_store.specs.FileStore.{view};
+ghost use Rattle.sqlite_store.specs.FileStore.{IsReady, schema_of, state, view};
+ghost use Rattle.sqlite_store.specs.Unopened.{AreUsable, HasFile, Opens, image, state_of, wanted_by};
 ghost use Rattle.sqlite_disk.specs.Disk.{CountsFault};
 ghost use Rattle.sqlite_std_file.specs.File.{IsFresh, file_is_usable};
 ghost use Rattle.argon2_store.specs.Errors.{IsOfDatabase};
-ghost use Rattle.argon2_store.specs.Opening.{AreSynced, AreUnharmed, FoundIn, IsDamaged, seen_image, IsSigned, AreClean, OnlyReads};
+ghost use Rattle.argon2_store.specs.Opening.{AreSound, AreSynced, AreUnharmed, FoundIn, IsDamaged, Recovers, seen_image, IsSigned, AreClean, OnlyReads};
 ghost use Rattle.argon2_rows.specs.Table.{IsClean, IsUnwritten};
 
 use crate::error::OpenError;
@@ -13,7 +14,7 @@ use sqlite_disk::{Disk, Files};
 use sqlite_pager::{Options, PageSize, Pager};
 use sqlite_pool::probe_blank;
 use sqlite_std_file::{FileFrom, Start};
-use sqlite_store::{FileStore, Unopened};
+use sqlite_store::{FileStore, OpenError as UnopenedError, Unopened};
 use sqlite_trees::schema::Object;
 use sqlite_trees::store::Shape;
 use sqlite_value::keys::Order;
@@ -41,13 +42,13 @@ const ACCOUNT: Object<'static> = Object {
 const LISTED: usize = 1;
 
 // The bytes of a page.
-const PAGE: usize = 4096;
+pub(crate) const PAGE: usize = 4096;
 
 // The pages that are kept in memory, as many as SQLite keeps. Each open asks for all of them.
 const CACHED: usize = 500;
 
 // The bytes of a log's header and of the one of its first frame.
-const HEADERS: usize = 56;
+pub(crate) const HEADERS: usize = 56;
 
 // The only page of a database with a log that lists no table, up to its last byte that is not zero: the header, and a leaf
 // without cells.
@@ -61,14 +62,41 @@ const FIRST: [u8; 106] = [
 // The first byte of a log's magic number.
 const MAGIC: u8 = 0x37;
 
+// Opens a database that is there. It is checked whole before, unless it is known to be sound.
+fn open_there<D: Disk>(
+    unopened: Unopened<D>,
+    is_known: bool,
+) -> Result<FileStore<D>, (UnopenedError, Unopened<D>)>
+    requires usable { AreUsable unopened }
+    requires known { IsTrue is_known → IsTrue (state_of unopened).is_clean → HasFile unopened }
+    ensures ready { IfOk result IsReady }
+    ensures schema { IfOk result (λ it. schema_of it ≡ wanted_by unopened) }
+    ensures honest { IfOk result (λ it. IsTrue (state it).is_clean → IsTrue (state_of unopened).is_clean) }
+    ensures found { IfOk result (λ it. IsTrue (state it).is_clean →
+        Recovers (state_of unopened).page_size (image unopened) (state it).committed) }
+    ensures kept { IfOk result (λ it. IsTrue (state it).is_clean → Opens unopened (state it)) }
+    ensures unharmed { IfErr result (λ e. IsTrue (state_of e.1).is_clean → Opens unopened (state_of e.1)) }
+    ensures back { IfErr result (λ e. wanted_by e.1 ≡ wanted_by unopened) }
+    ensures falls { IfErr result (λ e. IsTrue (state_of e.1).is_clean → IsTrue (state_of unopened).is_clean) }
+{
+    if is_known {
+        unopened.open_trusted()
+    } else {
+        unopened.open()
+    }
+}
+
 // Opens two files, or makes the table in them if they have a database without tables, such as a first open that was cut off leaves.
-// One that lists more than one thing is refused. An error comes with the files.
+// One that lists more than one thing is refused. An error comes with the files. Files that are known to be sound are not checked.
 pub(crate) fn open_files<D: Disk + Drop>(
     alloc: Global,
     mut files: Files<D>,
     seed: u64,
+    is_known: bool,
 ) -> Result<FileStore<D>, (OpenError, Files<D>)>
-    requires { IsTrue (D.Disk.is_usable files.log) × IsTrue (D.Disk.is_usable files.db) }
+    requires usable { IsTrue (D.Disk.is_usable files.log) × IsTrue (D.Disk.is_usable files.db) }
+    requires known { IsTrue is_known → AreClean D.Disk files.log files.db →
+        AreSound (seen_image D.Disk files.log files.db) }
     ensures opened { IfOk result (λ it. IsClean (view it) →
         IsUnwritten (view it) × AreClean D.Disk files.log files.db
         × FoundIn 4096 (seen_image D.Disk files.log files.db) ((view it).committed 0)) }
@@ -105,7 +133,7 @@ pub(crate) fn open_files<D: Disk + Drop>(
             return Err((OpenError::NotAccounts, unopened.close()));
         }
         if rows.len() == LISTED {
-            match unopened.open() {
+            match open_there(unopened, is_known) {
                 Ok(store) => return Ok(store),
                 Err((error, left)) => return Err((error.into(), left.close())),
             }

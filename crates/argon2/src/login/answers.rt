@@ -10,13 +10,11 @@ use std::fmt;
 /// What an accepted login did with the name's text.
 #[derive(Clone, Copy, Debug, PartialEq, Eq)]
 pub enum Accepted {
-    /// The text has the algorithm, the version, the parameters and the hash length of the store's
-    /// target, and stays.
+    /// The text is as the caller's target asks, and stays.
     Current,
-    /// The text had others. It is now one that was made of the password under the target.
+    /// The text is not. One that was made of the password under the target takes its place.
     Rehashed,
-    /// The text has others, and stays: there was no memory for a new one, or a file with accounts could
-    /// not be written.
+    /// The text is not, and stays: no other one could be made or stored.
     Kept,
 }
 

@@ -1,27 +1,25 @@
 //! Verifying passwords against stored hashes.
 
-ghost use Rattle.std.specs.Prelude.{◌≡◌, ◌⊎◌, MatchResult, Ok};
+ghost use Rattle.std.specs.Prelude.{◌≡◌, Ok};
 ghost use Rattle.argon2_base.specs.PhcFields.{phc_of};
 ghost use Rattle.argon2_base.specs.PhcText.{Phc};
-ghost use Rattle.argon2_base.specs.declared.error.password_hash.Error.TheVariants.{OutOfMemory};
-ghost use Rattle.argon2.specs.ListedParameters.{asked_of};
 ghost use Rattle.argon2.specs.StoredTexts.{Accepts, AcceptsBy, IsVerifyAnswer, IsVerifyTextAnswer, stored_of, stored_value};
-ghost use Rattle.argon2.specs.Argon2.{parameters_of, secret_of};
+ghost use Rattle.argon2.specs.Argon2.{secret_of};
 
 use super::{Error, PasswordVerifier, Result, Settings, Stored};
 use crate::context::Argon2;
-use crate::params::Params;
 use argon2_base::phc::PasswordHash;
 use std::alloc::Global;
 
 impl Argon2<'_> {
-    // Whether what a hash shows is the tag of the password, with this secret.
-    pub(crate) fn verify_stored(
-        &self,
-        alloc: Global,
-        password: &[u8],
-        stored: &Stored<'_>,
-    ) -> Result<()>
+    /// Ok if a password is accepted by what a text is verified by, under this context's secret. The memory of
+    /// the hash is requested from `alloc` in one request, and freed before the call returns.
+    ///
+    /// # Errors
+    /// The first of these that holds:
+    /// - [`Error::OutOfMemory`]: the request was refused.
+    /// - [`Error::PasswordInvalid`]: the password is longer than 4294967295 bytes, or is not accepted.
+    pub fn verify_stored(&self, alloc: Global, password: &[u8], stored: &Stored<'_>) -> Result<()>
         ensures { (v : Phc) → stored_of v ≡ Ok (stored_value stored.now)
             → IsVerifyAnswer (secret_of self.now) password.now v result }
     {
@@ -36,25 +34,6 @@ impl Argon2<'_> {
             return Ok(());
         }
         Err(Error::PasswordInvalid)
-    }
-
-    // Verifies against a hash as `verify_password` does, given its parameters.
-    pub(crate) fn verify_with_params(
-        &self,
-        alloc: Global,
-        password: &[u8],
-        hash: &PasswordHash,
-        params: Params,
-    ) -> Result<()>
-        requires { asked_of (phc_of hash.now) ≡ Ok (parameters_of params) }
-        ensures answer { IsVerifyAnswer (secret_of self.now) password.now (phc_of hash.now)
-            result }
-        ensures accepted { let secret = secret_of self.now in let v = phc_of hash.now in
-            MatchResult result (λ _. AcceptsBy secret password.now v)
-            (λ e. (e ≡ OutOfMemory) ⊎ (AcceptsBy secret password.now v → ⊥)) }
-    {
-        let stored = Stored::with_settings(hash, Settings::with_params(hash, params))?;
-        self.verify_stored(alloc, password, &stored)
     }
 }
 

@@ -1,11 +1,10 @@
 //! Accounts in a file.
 
 ghost use Rattle.std.specs.Prelude.{◌≡◌, ◌∷◌, ◌⊎◌, [], ℕ, List, Option, Some, Ok, IfErr, IfOk, MatchResult, OnErr, OnOk, map, string_bytes};
-ghost use Rattle.argon2_passwd.specs.Answers.{AddsLines, Ends, IsLogin, IsLooked, IsOpened, IsSalt, IsServed, IsUnfound, SaysHash, entry_of, fill_bytes, phc_of, policy_value, status_of};
+ghost use Rattle.argon2_passwd.specs.Answers.{AddsLines, Ends, FailsToRead, IsLogin, IsLooked, IsOpened, IsSalt, IsServed, entry_of, fill_bytes, option_map, policy_value, status_of};
 
-use super::edits::{Step, call, edit};
+use super::edits::{edit, edit_file};
 use super::others::import_others;
-use super::texts::read;
 use super::{check, generator, hash, say};
 use crate::command::{Action, Task};
 use crate::entries::read_all;
@@ -13,11 +12,10 @@ use crate::failure::{Failure, Flaw};
 use crate::lines::{entries_and_flaws, read_lines};
 use crate::outside::Outside;
 use crate::passwords::password;
-use argon2::PasswordHash;
 use argon2::login::{Accepted, LoggedIn};
 use argon2_policy::Policy;
 use argon2_rows::StoredText;
-use argon2_store::{AccountFile, FileError, OpenError, View};
+use argon2_store::{AccountFile, Edit, FileError, OpenError, View};
 use rand_core::Rng;
 use sqlite_trees::store::Store;
 use std::alloc::Global;
@@ -171,13 +169,15 @@ fn log_in<P: Outside, G: Rng>(
         access.now.path.now name.now password.now done (P.closed outside.new))
         (P.closed outside.new []) result }
 {
-    let (text, hash) = look(outside, access, name, password)?;
-    let LoggedIn { accepted, fresh } = access.policy.log_in(rng, &hash, password)?;
+    let text = stored_text(outside, access, name)?;
+    let stored = text.as_deref();
+    let LoggedIn { accepted, fresh } = access.policy.log_in(rng, stored, password)?;
     let Some(fresh) = fresh else {
         return Ok(accepted);
     };
-    let step = Step::Replace(text.as_str(), fresh);
-    match call(outside, access, name, &step) {
+    // (without a text no password is accepted)
+    let edit = Edit::Replace(stored.unwrap_or(""), &fresh);
+    match edit_file(outside, access, name, &edit) {
         Ok(()) => Ok(accepted),
         // The name was removed or locked meanwhile.
         Err(failure) if failure.is_denial() => Err(failure),
@@ -186,35 +186,23 @@ fn log_in<P: Outside, G: Rng>(
     }
 }
 
-// The text of a name in a file, and what it says. If it says nothing, the password is hashed all the same.
-pub(super) fn look<P: Outside>(
+// The text of a name in a file, if it has one.
+pub(super) fn stored_text<P: Outside>(
     outside: &mut P,
     access: &Access<'_>,
     name: &str,
-    password: &[u8],
-) -> Result<(String, PasswordHash), Failure>
+) -> Result<Option<String>, Failure>
     requires { P.closed outside.old [] }
     ensures { MatchResult result
-        (λ found. SaysHash (string_bytes found.0) (phc_of found.1)
-        × IsLooked P.File.Store P.keeps access.now.path.now name.now
-        (Ok (Some (string_bytes found.0))) (λ read. P.closed outside.new (read ∷ [])))
-        (λ failure. IsUnfound P.File.Store P.keeps (λ v e. ⊥) access.now.path.now name.now
+        (λ text. IsLooked P.File.Store P.keeps access.now.path.now name.now
+        (Ok (option_map string_bytes text)) (λ read. P.closed outside.new (read ∷ [])))
+        (λ failure. FailsToRead P.File.Store P.keeps access.now.path.now name.now
         (P.closed outside.new) failure ⊎ (P.closed outside.new [] × (status_of failure ≡ 3))) }
 {
     let mut accounts = open(outside, access)?;
-    let found = accounts.text_of(name);
+    let text = accounts.text_of(name);
     outside.close(accounts.into_store());
-    let Some(text) = found? else {
-        access.policy.hash_for_nobody(password);
-        return Err(FileError::NameUnknown.into());
-    };
-    match read(text.as_str()) {
-        Ok(hash) => Ok((text, hash)),
-        Err(failure) => {
-            access.policy.hash_for_nobody(password);
-            Err(failure)
-        }
-    }
+    Ok(text?)
 }
 
 // Adds all entries, each a line, or none.

@@ -1,7 +1,7 @@
 use Rattle.argon2_store.proofs.Imports.{arith, rules, [], ◌∷◌, ap, inl, inr, ◌≡◌, sym, length, subst, subst₂, ◌∙◌, IsTrue, ∥∥₁_map, Recovers, recovers_once, clean_of}
 use Rattle.argon2_store.proofs.Imports.{schema_of, state, view, kept_schema, state_of, image, account, Image, IsUnstarted, FoundIn, nil_from_length, refl, wanted_by, ListsOne}
 use Rattle.sqlite_store.specs.Unopened as below
-use Rattle.argon2_store.proofs.OpenLemmas.{after, as_before, bare, fresh, image_is, made, probed, unharmed, was_clean}
+use Rattle.argon2_store.proofs.OpenLemmas.{after, as_before, bare, fresh, has_file, image_is, made, probed, there, unharmed, was_clean}
 use Rattle.argon2_store.proofs.opening.open_files.Goals as goal
 use Rattle.argon2_store.proofs.opening.open_files.Goals.{After-create, then-not-is_new+in-Ok-read_catalog+else-len-gt-LISTED+else-len-eq-LISTED, else-not-is_new}
 
@@ -35,6 +35,20 @@ looked g c = elim c.if-not-is_new.branch [
   )
 ]
 
+pub open_there-requires-clause-known : goal.open_there-requires-clause-known
+open_there-requires-clause-known g c known clean =
+    let it = c.in-Ok-new-2.unopened in
+    let kept = c.read_catalog.ensures.kept clean in
+    let was = c.read_catalog.ensures.honest clean in
+    let size : (state_of it).page_size ≡ 4096 = search rules in
+    let of_files = image_is c.probe_blank.ensures.log c.probe_blank.ensures.db it (search rules) in
+    let files = was_clean c.probe_blank.ensures.log c.probe_blank.ensures.db it (search rules) was in
+    has_file it c.read_catalog.new.self c.in-Ok-read_catalog.rows.items (c.in-Ok-read_catalog.ensures.ok clean) kept.size size
+    (c.read_catalog.ensures.schema ∙ search rules) (search rules)
+    (there c.probe_blank.ensures.log c.probe_blank.ensures.db it (search rules) c.in-Ok.is_new 4096 (search rules)
+    (rw c.in-Some.ensures.value at c.in-Ok.ensures.ok) was)
+    (rw of_files (c.requires.known known files))
+
 pub returns-in-Err-read_catalog-clause-left : goal.returns-in-Err-read_catalog-clause-left
 returns-in-Err-read_catalog-clause-left g c =
     unharmed c.probe_blank.ensures.log c.probe_blank.ensures.db c.in-Ok-new-2.unopened (search rules) (search rules) c.read_catalog.new.self _
@@ -47,34 +61,34 @@ returns-then-len-gt-LISTED-clause-left g c =
     c.close-then-len-gt-LISTED.ensures (λ sized clean.
     (search arith, λ left may. as_before c.in-Ok-new-2.unopened sized left ((c.read_catalog.ensures.kept clean).crash left may)))
 
-pub returns-in-Err-open-clause-left : goal.returns-in-Err-open-clause-left
-returns-in-Err-open-clause-left g c =
-    unharmed c.probe_blank.ensures.log c.probe_blank.ensures.db c.in-Ok-new-2.unopened (search rules) (search rules) c.in-Err-open.left _
-    c.close-in-Err-open.ensures (λ sized clean.
-    let was = c.in-Err-open.ensures.falls clean in
+pub returns-in-Err-open_there-clause-left : goal.returns-in-Err-open_there-clause-left
+returns-in-Err-open_there-clause-left g c =
+    unharmed c.probe_blank.ensures.log c.probe_blank.ensures.db c.in-Ok-new-2.unopened (search rules) (search rules) c.in-Err-open_there.left _
+    c.close-in-Err-open_there.ensures (λ sized clean.
+    let was = c.in-Err-open_there.ensures.falls clean in
     let kept = c.read_catalog.ensures.kept was in (
       search arith,
       λ left may. as_before c.in-Ok-new-2.unopened sized left (after _ _ _ (c.in-Ok-read_catalog.ensures.ok was) kept.size kept left
-          ((c.in-Err-open.ensures.unharmed clean).crash left may)),
+          ((c.in-Err-open_there.ensures.unharmed clean).crash left may)),
     ))
 
-pub returns-in-Ok-open-clause-opened : goal.returns-in-Ok-open-clause-opened
-returns-in-Ok-open-clause-opened g c clean =
+pub returns-in-Ok-open_there-clause-opened : goal.returns-in-Ok-open_there-clause-opened
+returns-in-Ok-open_there-clause-opened g c clean =
     let now = clean_of _ clean in
-    let store = c.in-Ok-open.store in
-    let was = c.in-Ok-open.ensures.honest now in
+    let store = c.in-Ok-open_there.store in
+    let was = c.in-Ok-open_there.ensures.honest now in
     let size = (c.read_catalog.ensures.kept was).size in
-    let sized = (c.in-Ok-open.ensures.kept now).size ∙ size in
+    let sized = (c.in-Ok-open_there.ensures.kept now).size ∙ size in
     let wants : wanted_by c.in-Ok-new-2.unopened ≡ account ∷ [] = search rules in
     let schema : kept_schema store.saved (schema_of store) ≡ account ∷ [] = search arith in
     let listed = c.in-Ok-read_catalog.ensures.ok was in
-    let once = recovers_once _ _ _ _ listed.again (rw size at (c.in-Ok-open.ensures.found now)) in (
+    let once = recovers_once _ _ _ _ listed.again (rw size at (c.in-Ok-open_there.ensures.found now)) in (
       search (arith, fresh),
       search (arith, was_clean),
       subst₂ (λ n i. FoundIn n i ((view store).committed 0)) (search rules) (search (arith, image_is)) (inl (
         (state store).committed,
         subst (Recovers _ _) once listed.found,
-        ∥∥₁_map (store.stored (c.in-Ok-open.ensures.ready.is_open clean)) (λ stored. rw (sized, schema) at stored.ours.file),
+        ∥∥₁_map (store.stored (c.in-Ok-open_there.ensures.ready.is_open clean)) (λ stored. rw (sized, schema) at stored.ours.file),
         grind arith,
         subst (ListsOne _) once (ap length (sym listed.lists) ∙ search rules),
       )),

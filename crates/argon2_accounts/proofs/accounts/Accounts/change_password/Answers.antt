@@ -1,26 +1,46 @@
-use Rattle.argon2_accounts.proofs.AccountLemmas.{arith, changes, edited, err_is, inl, inr, keeps, None, policy_value, reads_leave, rules}
+use Rattle.argon2_accounts.proofs.AccountLemmas.{arith, ChangeRefusal, changes, edited, err_is, inl, inr, keeps, policy_value, reads_leave, refl, rules, Some, subst, sym, ◌∙◌}
+use Rattle.argon2_accounts.proofs.AccountLemmas.{AdmitsStored, text_or}
 use Rattle.argon2_accounts.proofs.accounts.Accounts.change_password.Goals as goal
 
-pub returns-in_err-text-clause-names : goal.returns-in_err-text-clause-names
-returns-in_err-text-clause-names g c = reads_leave _ c.in_err-text.ensures.reads.1 (λ names has honest.
-    search (rules, c.in_err-text.ensures.names names has honest))
+pub returns-in_err-text-clause-call : goal.returns-in_err-text-clause-call
+returns-in_err-text-clause-call g c =
+    rw (err_is _ _ c.from_residual.ensures.1) (inl (Some c.in_err-text.field-0.0, c.in_err-text.ensures.reads, refl))
 
-pub returns-in_err-fresh-clause-call : goal.returns-in_err-fresh-clause-call
-returns-in_err-fresh-clause-call g c =
-    rw (err_is _ _ c.from_residual-in_err-fresh.ensures.1) (inl (None, c.in_ok-text.ensures.reads, grind arith))
+pub returns-in_err-text-clause-names : goal.returns-in_err-text-clause-names
+returns-in_err-text-clause-names g c = reads_leave _ c.in_err-text.ensures.reads (λ names has honest.
+    rw (err_is _ _ c.from_residual.ensures.1) (refl, λ is. let no_refusal = c.in_err-text.ensures.error in grind arith))
 
 pub returns-in_err-fresh-clause-names : goal.returns-in_err-fresh-clause-names
 returns-in_err-fresh-clause-names g c = reads_leave _ c.in_ok-text.ensures.reads (λ names has honest.
-    rw (err_is _ _ c.from_residual-in_err-fresh.ensures.1)
-    (keeps (policy_value c.args.self.now.policy) _ _ names c.in_ok-text.text (c.in_ok-text.ensures.names names has honest) _ _ _ _
-    c.in_err-fresh.ensures.made c.in_err-fresh.ensures.drawn))
+    let policy = policy_value c.args.self.now.policy in
+    let same = c.as_deref-stored.ensures.value ∙ sym (c.in_ok-text.ensures.shows names has honest) in
+    rw (err_is _ _ c.from_residual-in_err-fresh.ensures.1) (keeps policy c.args.name.now c.args.old.now names c.args.new.now
+    c.in_err-fresh.field-0.0 (g.R.Rng.stream c.args.rng.now) (g.R.Rng.stream c.change_password.new.rng)
+    (subst (λ o. ChangeRefusal policy c.args.old.now c.args.new.now o (g.R.Rng.stream c.args.rng.now)
+    (g.R.Rng.stream c.change_password.new.rng) c.in_err-fresh.field-0.0) same
+    c.in_err-fresh.ensures.made)))
 
 pub returns-clause-call : goal.returns-clause-call
 returns-clause-call g c =
-    inr (_, _, c.in_ok-fresh.fresh, _, c.in_ok-text.ensures.reads, search rules, c.replace-done.ensures, search rules)
+    inr (
+      _,
+      _,
+      c.in_ok-fresh.fresh,
+      _,
+      c.in_ok-text.ensures.reads,
+      c.in_ok-fresh.ensures.made.1,
+      c.replace-done.ensures,
+      search rules,
+    )
 
 pub returns-clause-names : goal.returns-clause-names
 returns-clause-names g c = edited _ c.in_ok-text.ensures.reads c.replace-done.ensures (λ before after has honest answers.
-    changes (policy_value c.args.self.now.policy) _ _ before c.in_ok-text.text (c.in_ok-text.ensures.names before has honest)
-    _ _ _ _ c.in_ok-fresh.fresh after c.replace-done.result _ (search rules) c.in_ok-fresh.ensures.made.0 c.in_ok-fresh.ensures.accepted
+    let policy = policy_value c.args.self.now.policy in
+    let old = c.args.old.now in
+    let some = text_or c.as_deref-stored.result c.in_ok-fresh.ensures.made.0.0 _ c.unwrap_or.result c.unwrap_or.ensures
+    c.in_ok-fresh.ensures.made.0.1 in
+    let is = c.in_ok-text.ensures.shows before has honest ∙ sym c.as_deref-stored.ensures.value ∙ some in
+    changes policy c.args.name.now old before c.args.new.now c.unwrap_or.result.now
+    (g.R.Rng.stream c.args.rng.now) _ c.in_ok-fresh.fresh after c.replace-done.result _
+    (search rules) is (subst (AdmitsStored policy old) some c.in_ok-fresh.ensures.made.0) c.in_ok-fresh.ensures.accepted
     c.in_ok-fresh.ensures.made.1 answers)

@@ -9,4 +9,4 @@ returns-clause-call g c = inr (c.in_ok-text.text, c.add.result, c.in_ok-text.ens
 
 pub returns-clause-names : goal.returns-clause-names
 returns-clause-names g c = gives_text (policy_value c.args.self.now.policy) (adding _ (text_of c.in_ok-text.text)) _
-    c.in_ok-text.text (λ o. refl) c.in_ok-text.ensures.accepted c.add.result _ (search rules) c.add.ensures.call
+    (text_of c.in_ok-text.text) (λ o. refl) c.in_ok-text.ensures.accepted c.add.result _ (search rules) c.add.ensures.call

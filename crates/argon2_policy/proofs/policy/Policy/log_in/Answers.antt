@@ -1,14 +1,21 @@
-use Rattle.std.proofs.Common.{arith}
+use Rattle.argon2_policy.proofs.PolicyLemmas.{admits_found, outdated, policy_value}
 use Rattle.argon2_policy.proofs.policy.Policy.log_in.Goals as goal
 
 pub returns-clause-step : goal.returns-clause-step
-returns-clause-step g c = grind arith
-
-pub returns-clause-fresh : goal.returns-clause-fresh
-returns-clause-fresh g c = grind arith
+returns-clause-step g c =
+    let (v, says, within, found) = c.in_ok-admit.ensures.found in (
+      v,
+      says,
+      (
+        within,
+        outdated (policy_value c.args.self.now) c.args.password.now v c.in_ok-admit.field-0 c.in_default.not-Recent found,
+        c.in-Ok.ensures.made,
+      ),
+    )
 
 pub returns-clause-accepted : goal.returns-clause-accepted
-returns-clause-accepted g c = grind arith
-
-pub returns-clause-current : goal.returns-clause-current
-returns-clause-current g c = grind arith
+returns-clause-accepted g c =
+    let (v, says, within, found) = c.in_ok-admit.ensures.found in (
+      (v, says, admits_found (policy_value c.args.self.now) c.args.password.now v c.in_ok-admit.field-0 within found),
+      c.in-Ok.ensures.accepted,
+    )

@@ -1,37 +1,36 @@
-use Rattle.argon2_store.proofs.Imports.{arith, rules, inl, refl, subst, subst₂, sym, halves, no_doubt, settled_at, over_file, view, FoundIn, leaves_quiet, quiet_itself, err_is, AreClean}
+use Rattle.argon2_store.proofs.Imports.{arith, inl, refl, subst, subst₂, sym, no_doubt, settled_at, over_file, view, FoundIn, IsClean, leaves_quiet, quiet_itself, err_is, AreClean}
 use Rattle.argon2_store.proofs.NextOpenLemmas.{near_found}
 use Rattle.argon2_store.proofs.OpenLemmas.{is_honest, of_database, seen_same, unharmed_by_reads, unharmed_then}
 use Rattle.argon2_store.proofs.account_file.AccountFile+FileStore+D.open_from.Goals as goal
-use Rattle.argon2_store.proofs.account_file.AccountFile+FileStore+D.open_from.Goals.{in-Ok-false-load, in-Err-load}
+use Rattle.argon2_store.proofs.account_file.AccountFile+FileStore+D.open_from.Goals.{in-Ok-false, in-Err-load}
 
 pub invariant_of-result : goal.invariant_of-result
 invariant_of-result g c =
-    let found = c.in-Ok-true-load.ensures.found c.in-Ok-true-load.field-0-test in record { kept = ∣ (found.0, found.2) ∣₁ }
+    let found = c.in-Ok-true.ensures.found c.in-Ok-true.field-0-test in record { kept = ∣ (found.0, found.2) ∣₁ }
 
-pub returns-in-Ok-true-load-clause-ready : goal.returns-in-Ok-true-load-clause-ready
-returns-in-Ok-true-load-clause-ready g c =
-    let (names, lines, has, rows) = c.in-Ok-true-load.ensures.found c.in-Ok-true-load.field-0-test in (
+pub returns-in-Ok-true-clause-ready : goal.returns-in-Ok-true-clause-ready
+returns-in-Ok-true-clause-ready g c =
+    let (names, lines, has, rows) = c.in-Ok-true.ensures.found c.in-Ok-true.field-0-test in
+    let opened = λ (clean : IsClean (view c.load.new.store)). c.in_ok-store.ensures.opened (search arith) in (
       names,
       record {
         has = has;
-        is_open = c.in-Ok-true-load.ensures.«open»;
+        is_open = c.in-Ok-true.ensures.«open»;
         left = λ clean. leaves_quiet over_file (λ s. settled_at s g.met.D.Disk.seen_may_stay) _ c.load.new.store names has.1
-            (quiet_itself over_file c.load.new.store) clean (c.in-Ok-true-load.ensures.«open» clean);
+            (quiet_itself over_file c.load.new.store) clean (c.in-Ok-true.ensures.«open» clean);
       },
       lines,
-      λ clean. (has.0, subst₂ (FoundIn 4096) (search (arith, seen_same)) (rows clean) ((c.in_ok-store.ensures.opened (search arith)).2)),
-      λ clean damaged. search (arith, halves),
+      λ clean. (has.0, subst₂ (FoundIn 4096) (seen_same c.in_default.ensures.reads) (rows clean) (opened clean).2),
+      λ clean. c.in_default.ensures.whole (opened clean).1,
+      λ clean. c.in_default.ensures.known (opened clean).1,
     )
-
-pub returns-in-Err-clause-err : goal.returns-in-Err-clause-err
-returns-in-Err-clause-err g c =
-    of_database (search rules) (search (arith, rules)) (λ clean left may. inl (c.is_damaged.ensures.same.crash left.log may.0, may.1))
 
 pub returns-in_err-store-clause-err : goal.returns-in_err-store-clause-err
 returns-in_err-store-clause-err g c =
     rw (err_is c.from_residual.result _ c.from_residual.ensures.1)
-    (of_database (search rules) (λ clean damaged. let was = c.in_err-store.ensures.left.0 clean in search (arith, halves))
-    (unharmed_then c.args.files.db _ c.is_damaged.ensures.same c.in_err-store.ensures.left.1))
+    (of_database _ c.in_err-store.ensures.error (λ clean damaged. absurd (c.in_default.ensures.whole (c.in_err-store.ensures.left.0 clean) damaged))
+    (λ clean n has. absurd (c.in_default.ensures.known (c.in_err-store.ensures.left.0 clean) n has))
+    (unharmed_then _ c.in_default.ensures.reads c.in_err-store.ensures.left.1))
 
 -- a row is no account, or the rows can't be read
 pub returns-clause-err : goal.returns-clause-err
@@ -40,22 +39,25 @@ returns-clause-err g c =
     no_doubt _ (is_honest c.load.new.store.pool _ (sym c.close.ensures) clean) in
     let held = λ (clean : AreClean g.D.Disk c.close.result.log c.close.result.db).
     (c.in_ok-store.ensures.opened (omega (arith, c.load.ensures.quiet.clean, now clean))).1 in
-    let unharmed = unharmed_then c.args.files.db _ c.is_damaged.ensures.same
-    (unharmed_by_reads (c.is_damaged.new.log, c.args.files.db) c.in_ok-store.store c.load.new.store _ g.met.D.Disk.seen_may_stay
+    let unharmed = unharmed_then _ c.in_default.ensures.reads
+    (unharmed_by_reads (c.check_headers.new.files.log, c.check_headers.new.files.db) c.in_ok-store.store c.load.new.store _ g.met.D.Disk.seen_may_stay
     c.load.ensures.quiet c.in_ok-store.ensures.opened c.close.ensures) in
     elim c.match-load.branch [
-      | in-Ok-false-load w ↦ rw w.error-is record {
+      | in-Ok-false w ↦ rw w.error-is record {
         kind = inl refl;
         row = λ is clean names lines holds.
             let found = subst (λ i. FoundIn 4096 i ((view c.in_ok-store.store).committed 0))
-            (seen_same c.args.files.db c.is_damaged.ensures.same) ((c.in_ok-store.ensures.opened (search arith)).2) in
-            w.in-Ok-false-load.ensures.refused w.in-Ok-false-load.field-0-test (now clean) names holds.0 lines
+            (seen_same c.in_default.ensures.reads) ((c.in_ok-store.ensures.opened (search arith)).2) in
+            w.in-Ok-false.ensures.refused w.in-Ok-false.field-0-test (now clean) names holds.0 lines
             (sym ((near_found _ _ found).0 _ holds.1));
         damaged = λ is. absurd cc;
-        damage = λ clean damaged. let was = held clean in search (arith, halves);
+        damage = λ clean damaged. absurd (c.in_default.ensures.whole (held clean) damaged);
+        format = λ n is. absurd cc;
+        other = λ clean n has. absurd (c.in_default.ensures.known (held clean) n has);
         unharmed = unharmed;
       }
-      | in-Err-load w ↦ rw w.error-is (of_database (let of = w.into-error.ensures in grind arith)
-          (λ clean damaged. let was = held clean in search (arith, halves))
+      | in-Err-load w ↦ rw w.error-is (of_database _ (let of = w.into-error.ensures in grind arith)
+          (λ clean damaged. absurd (c.in_default.ensures.whole (held clean) damaged))
+          (λ clean n has. absurd (c.in_default.ensures.known (held clean) n has))
           unharmed)
     ]

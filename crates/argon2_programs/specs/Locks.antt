@@ -1,0 +1,16 @@
+-- Locks of stored texts. A locked text accepts no password.
+use Rattle.std.specs.Prelude.{◌==◌, ℕ, List, [], ◌∷◌, if◌then◌else◌, Bool, Option, Some, None}
+use Rattle.std.specs.Option.{is_some}
+
+-- what a locked text has behind its `!`
+abbrev pub behind_lock : List ℕ → Option (List ℕ)
+behind_lock [] = None
+behind_lock (c ∷ text) = if c == 33 then Some text else None
+
+abbrev pub is_locked : List ℕ → Bool
+is_locked text = is_some (behind_lock text)
+
+-- the text without a `!` before it
+abbrev pub without_lock : List ℕ → List ℕ
+without_lock [] = []
+without_lock (c ∷ text) = if c == 33 then text else c ∷ text
