@@ -91,9 +91,9 @@ static void wipe_and_free(uint8_t *at, size_t n) {
     free(at);
 }
 
-/* Wipes what the crate's functions left on the stack, of which they use some 13 KiB. */
+/* Wipes what the crate's functions left on the stack, of which they use some 13 KiB, and on RISC-V 17. */
 static __attribute__((noinline)) void wipe_stack(void) {
-    uint8_t below[16 << 10];
+    uint8_t below[20 << 10];
     wipe(below, sizeof below);
 }
 

@@ -86,6 +86,8 @@ static void wait_briefly(void) {
     for (int i = 0; i < 16; i++) {
 #ifdef __x86_64__
         __builtin_ia32_pause();
+#elif defined __riscv
+        __asm__ volatile(".insn i 0x0f, 0, x0, x0, 0x010"); /* `pause`, which older assemblers don't know */
 #else
         __asm__ volatile("yield");
 #endif
