@@ -1,12 +1,5 @@
-// Prints the least milliseconds of the processor that a hash takes by each of several modules of WebAssembly, in turns, and
-// whether all make the same tag: node bench/hashing.mjs PACKAGE ROUNDS MODULE.. One that exports `malloc` is the reference's.
+// Times hashes by several modules of WebAssembly, in node and in pages.
 
-import { readFileSync } from "node:fs";
-import { basename, join } from "node:path";
-import { pathToFileURL } from "node:url";
-
-const [folder, rounds, ...files] = process.argv.slice(2);
-const { load } = await import(pathToFileURL(join(folder, "node.mjs")));
 const COSTS = [
   { memory: 65536, passes: 3 },
   { memory: 19456, passes: 2 },
@@ -35,8 +28,9 @@ function referenceOf({ exports }) {
   };
 }
 
-async function hasherOf(file) {
-  const module = await WebAssembly.compile(readFileSync(file));
+// What hashes by a module. One that exports `malloc` is the reference's.
+async function hasherOf(bytes, load) {
+  const module = await WebAssembly.compile(bytes);
   if (!WebAssembly.Module.exports(module).some(({ name }) => name === "malloc")) {
     const argon2 = await load(module);
     return (costs) => argon2.raw(PASSWORD, SALT, costs);
@@ -49,24 +43,23 @@ async function hasherOf(file) {
   return referenceOf(instance);
 }
 
-function time(hash, costs) {
-  const begun = process.cpuUsage();
-  const tag = hash(costs);
-  const { user, system } = process.cpuUsage(begun);
-  return [(user + system) / 1000, Buffer.from(tag).toString("hex")];
-}
-
-const hashers = await Promise.all(files.map(hasherOf));
-for (const costs of COSTS) {
-  const least = files.map(() => Infinity);
-  const tags = new Set();
-  for (let round = 0; round < rounds; round++) {
-    hashers.forEach((hash, at) => {
-      const [milliseconds, tag] = time(hash, costs);
-      least[at] = Math.min(least[at], milliseconds);
-      tags.add(tag);
-    });
-  }
-  console.log(`m=${costs.memory} t=${costs.passes}: ${tags.size === 1 ? "the same tags" : "OTHER TAGS"}`);
-  files.forEach((file, at) => console.log(`  ${basename(file).padEnd(18)} ${least[at].toFixed(1).padStart(6)}`));
+/** Lines with the least milliseconds that a hash takes by each of some modules, in turns, and whether all make the same tag. It
+ * takes the modules' names, what reads one, the package's `load`, the rounds, and a clock of milliseconds. */
+export async function timesOf(names, read, load, rounds, clock) {
+  const hashers = await Promise.all(names.map(async (name) => hasherOf(await read(name), load)));
+  return COSTS.flatMap((costs) => {
+    const least = names.map(() => Infinity);
+    const tags = new Set();
+    for (let round = 0; round < rounds; round++) {
+      hashers.forEach((hash, at) => {
+        const begun = clock();
+        tags.add(String(hash(costs)));
+        least[at] = Math.min(least[at], clock() - begun);
+      });
+    }
+    return [
+      `m=${costs.memory} t=${costs.passes}: ${tags.size === 1 ? "the same tags" : "OTHER TAGS"}`,
+      ...names.map((name, at) => `  ${name.padEnd(20)} ${least[at].toFixed(1).padStart(6)}`),
+    ];
+  });
 }

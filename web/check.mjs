@@ -2,7 +2,7 @@
 
 import { readFileSync } from "node:fs";
 import { pathToFileURL } from "node:url";
-import { check, KNOWN, MODULES, runTests, thrown, toHex, tryWorker } from "./tests.mjs";
+import { check, KNOWN, MODULES, runTests, thrown, toHex, tryModules, tryWorker } from "./tests.mjs";
 
 const folder = pathToFileURL(`${process.argv[2]}/`);
 const readModule = (name) => new Uint8Array(readFileSync(new URL(name, folder)));
@@ -19,21 +19,7 @@ const TESTS = {
 
   "node takes SIMD if it has that": async () => {
     const { load } = await import(new URL("node.mjs", folder));
-    const { compile, validate } = WebAssembly;
-    const taken = [];
-    WebAssembly.compile = (it) => {
-      taken.push(it.length);
-      return compile(it);
-    };
-    try {
-      await load();
-      WebAssembly.validate = () => false;
-      await load();
-    } finally {
-      Object.assign(WebAssembly, { compile, validate });
-    }
-    const [plain, simd] = MODULES.map((name) => readModule(name).length);
-    check(taken.join() === `${simd},${plain}` && simd !== plain, taken);
+    await tryModules(load, MODULES.map((name) => readModule(name).length));
   },
 
   "the codes of argon2_phc.h": async () => {

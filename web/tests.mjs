@@ -249,6 +249,25 @@ const TESTS = {
   },
 };
 
+/** Tries which module an entry takes, by the lengths of the one without and the one with SIMD. */
+export async function tryModules(load, lengths) {
+  const { compile, validate } = WebAssembly;
+  const taken = [];
+  WebAssembly.compile = (it) => {
+    taken.push(it.byteLength);
+    return compile(it);
+  };
+  try {
+    WebAssembly.validate = () => false;
+    await load();
+    WebAssembly.validate = validate;
+    await load();
+  } finally {
+    Object.assign(WebAssembly, { compile, validate });
+  }
+  check(taken.join() === lengths.join() && lengths[0] !== lengths[1], taken);
+}
+
 /** Tries the functions of a worker. */
 export async function tryWorker(start) {
   const worker = start();
