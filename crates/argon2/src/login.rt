@@ -20,6 +20,7 @@ use rand_core::Rng;
 use std::alloc::Global;
 use std::collections::BTreeMap;
 use std::collections::btree_map::Iter;
+use std::fmt;
 use std::result::Result as Outcome;
 
 mod answers;
@@ -137,5 +138,14 @@ impl<'key> Login<'key> {
         ensures again { with_texts (named_values result) empty ≡ store_of self.now }
     {
         self.texts.iter()
+    }
+}
+
+/// Shows neither names nor texts.
+impl fmt::Debug for Login<'_> {
+    fn fmt<W: fmt::Write>(&self, f: &mut fmt::Formatter<W>) -> fmt::Result {
+        f.debug_struct("Login")
+            .field("target", &self.target)
+            .finish_non_exhaustive()
     }
 }

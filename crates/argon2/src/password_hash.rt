@@ -6,6 +6,7 @@ ghost use Rattle.argon2_base.specs.declared.error.password_hash.Error.TheVariant
 ghost use Rattle.rand_core.specs.Stream.{fill_bytes};
 
 pub use argon2_base::error::password_hash::{Error, Result};
+pub use argon2_base::phc;
 use rand_core::Rng;
 use std::alloc::Global;
 

@@ -14,7 +14,7 @@ mod value;
 
 pub use bytes::{Output, Salt};
 pub use compare::are_equal;
-pub use hash::PasswordHash;
+pub use hash::{PasswordHash, Text};
 pub use ident::{ARGON2D_IDENT, ARGON2I_IDENT, ARGON2ID_IDENT, Ident};
 pub use list::{Iter, ParamsString};
 pub use value::{Value, read_decimal};

@@ -13,7 +13,7 @@ use std::alloc::Global;
 use std::result::Result as Outcome;
 
 /// Settings and a secret whose hashes fit into texts.
-#[derive(Drop)]
+#[derive(Debug, Drop)]
 pub struct Target<'key> {
     argon2: Argon2<'key>,
     ghost fits: { IsTarget (target_of argon2) } by { Prim.hlevel props },

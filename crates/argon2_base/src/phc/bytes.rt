@@ -1,6 +1,6 @@
 //! Salts and outputs, and the strict Base64 of bytes.
 
-ghost use Rattle.std.specs.Prelude.{◌≡◌, ℕ, List, ◌<◌, ◌≤◌, ◌*◌, Some, IfOk, MatchResult, length, nat_eq};
+ghost use Rattle.std.specs.Prelude.{◌≡◌, ℕ, List, ◌<◌, ◌≤◌, ◌*◌, Some, IfOk, MatchResult, ⊤, length, nat_eq};
 ghost use Rattle.std.specs.Cmp.{partial_equiv_from_equiv};
 ghost use Rattle.std.specs.Cmp.Lexicographic.{pointwise, nat_list_eq_equiv};
 ghost use Rattle.argon2_base.specs.ByteList.{list_bytes};
@@ -13,6 +13,7 @@ use crate::byte_list::ByteList;
 use crate::error::password_hash::{Error, Result};
 use arrayvec::ArrayString;
 use base64::engine::general_purpose::STANDARD_NO_PAD;
+use std::alloc::AllocError;
 use std::convert::AsSlice;
 use std::marker::Model;
 use std::{fmt, str};
@@ -55,6 +56,17 @@ impl<const LOW: usize, const HIGH: usize> AsSlice<u8> for TextBytes<LOW, HIGH> {
 
     fn as_slice(&self) -> &[u8] {
         self.as_bytes()
+    }
+}
+
+/// A copy, which allocates nothing and never fails.
+impl<const LOW: usize, const HIGH: usize> Clone for TextBytes<LOW, HIGH> {
+    ghost is_clone = { λ s copy. copy ≡ s };
+
+    ghost is_infallible = { λ _. ⊤ };
+
+    fn clone(&self) -> std::result::Result<TextBytes<LOW, HIGH>, AllocError> {
+        Ok(TextBytes { bytes: self.bytes })
     }
 }
 

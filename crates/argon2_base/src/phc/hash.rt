@@ -1,6 +1,6 @@
 //! Whole PHC texts.
 
-ghost use Rattle.std.specs.Prelude.{◌≡◌, ◌↔◌, ◌<◌, ◌≤◌, ◌+◌, ◌++◌, ◌∷◌, Some, IfOk, IfErr, IsOkAnd, IsTrue, MatchResult, length};
+ghost use Rattle.std.specs.Prelude.{◌≡◌, ◌↔◌, ◌<◌, ◌≤◌, ◌+◌, ◌++◌, ◌∷◌, Some, IfOk, IfErr, IsOkAnd, IsTrue, MatchResult, ⊤, length};
 ghost use Rattle.std.specs.Cmp.{on_equiv, on_per, partial_equiv_from_equiv};
 ghost use Rattle.std.proofs.Props.{props};
 ghost use Rattle.arrayvec.specs.ArrayString.{array_string_len};
@@ -14,11 +14,12 @@ use super::list::ParamsString;
 use super::value::decimal_text;
 use crate::error::password_hash::{Error, Result};
 use arrayvec::ArrayString;
+use std::alloc::AllocError;
 use std::fmt;
 use std::str::FromStr;
 
-// The longest text.
-type Text = ArrayString<326>;
+/// The text of a hash, in place: it allocates nothing, and is `Copy`. The longest has 326 bytes.
+pub type Text = ArrayString<326>;
 
 /// What a PHC text says, which is in the grammar by this type: there is no hash without a salt.
 #[derive(Debug, Drop)]
@@ -74,6 +75,25 @@ impl PasswordHash {
         push_base64(&mut text, self.salt.as_ref().map(Salt::text));
         push_base64(&mut text, self.hash.as_ref().map(Output::text));
         text
+    }
+}
+
+/// A copy, which allocates nothing and never fails.
+impl Clone for PasswordHash {
+    ghost use Rattle.argon2_base.specs.PhcFields.{phc_of};
+
+    ghost is_clone = { λ h copy. phc_of copy ≡ phc_of h };
+
+    ghost is_infallible = { λ _. ⊤ };
+
+    fn clone(&self) -> std::result::Result<PasswordHash, AllocError> {
+        Ok(PasswordHash {
+            algorithm: self.algorithm,
+            version: self.version,
+            params: self.params.clone()?,
+            salt: self.salt.clone()?,
+            hash: self.hash.clone()?,
+        })
     }
 }
 

@@ -1,7 +1,7 @@
 //! Parameter lists.
 #![tactic(auto, using(crate::proofs::phc_lemmas::ListSteps::list_steps))]
 
-ghost use Rattle.std.specs.Prelude.{◌≡◌, ◌↔◌, ◌<◌, ◌≤◌, ◌++◌, ◌∷◌, ◌&&◌, [], ℕ, List, false, Some, Ok, is_ok, map, IfOk, IfErr, IfSome, OnOk, OnErr, MatchResult, IsTrue, length, nat_le};
+ghost use Rattle.std.specs.Prelude.{◌≡◌, ◌↔◌, ◌<◌, ◌≤◌, ◌++◌, ◌∷◌, ◌&&◌, [], ℕ, List, false, Some, Ok, is_ok, map, IfOk, IfErr, IfSome, OnOk, OnErr, MatchResult, IsTrue, ⊤, length, nat_le};
 ghost use Rattle.std.specs.Fmt.{decimal};
 ghost use Rattle.std.specs.List.{list_all};
 ghost use Rattle.std.specs.Cmp.{partial_equiv_from_equiv};
@@ -15,6 +15,7 @@ use super::ident::{Ident, is_name_text};
 use super::value::{Value, decimal_text, is_value_text};
 use crate::error::password_hash::{Error, Result};
 use arrayvec::ArrayString;
+use std::alloc::AllocError;
 use std::fmt;
 use std::marker::Model;
 use std::str::FromStr;
@@ -138,6 +139,17 @@ impl ParamsString {
     }
 }
 
+/// A copy, which allocates nothing and never fails.
+impl Clone for ParamsString {
+    ghost is_clone = { λ ps copy. copy ≡ ps };
+
+    ghost is_infallible = { λ _. ⊤ };
+
+    fn clone(&self) -> std::result::Result<ParamsString, AllocError> {
+        Ok(ParamsString { text: self.text })
+    }
+}
+
 /// The list whose text this is, or `ParamsInvalid` if it is no list's. The empty text is the
 /// empty list's.
 impl FromStr for ParamsString {
@@ -181,7 +193,7 @@ impl Eq for ParamsString {
 }
 
 /// The names and values of a list, in the order of its text.
-#[derive(Drop)]
+#[derive(Debug, Drop)]
 pub struct Iter<'a> {
     rest: Option<&'a str>,
 }

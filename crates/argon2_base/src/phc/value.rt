@@ -11,7 +11,7 @@ use arrayvec::ArrayString;
 use std::marker::Model;
 
 /// The value of a parameter.
-#[derive(Drop)]
+#[derive(Debug, Drop)]
 pub struct Value<'a> {
     pub(super) text: &'a str,
 }
