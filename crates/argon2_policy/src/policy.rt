@@ -16,6 +16,7 @@ use argon2::phc::Output;
 use argon2::{Argon2, Params, PasswordHash, PasswordHasher};
 use rand_core::Rng;
 use std::alloc::Global;
+use std::fmt;
 
 /// Whether a text that accepts a password stays.
 #[derive(Clone, Copy)]
@@ -309,6 +310,16 @@ impl<'key> Policy<'key> {
             return false;
         }
         shown.keyid() == wanted.keyid() && shown.data() == wanted.data()
+    }
+}
+
+/// Shows neither the secrets nor whether there are any.
+impl fmt::Debug for Policy<'_> {
+    fn fmt<W: fmt::Write>(&self, f: &mut fmt::Formatter<W>) -> fmt::Result {
+        f.debug_struct("Policy")
+            .field("target", &self.target)
+            .field("bound", &self.bound)
+            .finish_non_exhaustive()
     }
 }
 

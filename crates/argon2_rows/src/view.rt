@@ -6,7 +6,7 @@ ghost use Rattle.argon2_rows.specs.Rows.{breaks_line};
 use std::io;
 
 /// What is written of accounts, a line for each name.
-#[derive(Clone, Copy)]
+#[derive(Clone, Copy, Debug)]
 pub enum View {
     /// The names, so that a terminal acts on none of their characters: a control character is shown as `\x` and
     /// the two digits of its code, as `\x1b`, and `\` twice.

@@ -20,6 +20,7 @@ use sqlite_store::FileStore;
 use sqlite_trees::store::Store;
 use sqlite_value::row::Row;
 use std::alloc::{AllocError, Global};
+use std::fmt;
 use std::io::Write;
 
 /// Names with PHC texts in a file. Once a call that changes a text returns `Ok`, the file holds the change, past any
@@ -241,6 +242,13 @@ impl<S: Store> AccountFile<S> {
         ensures { result ≡ database_of self }
     {
         self.store
+    }
+}
+
+/// Shows neither names nor texts.
+impl<S: Store> fmt::Debug for AccountFile<S> {
+    fn fmt<W: fmt::Write>(&self, f: &mut fmt::Formatter<W>) -> fmt::Result {
+        f.debug_struct("AccountFile").finish_non_exhaustive()
     }
 }
 
