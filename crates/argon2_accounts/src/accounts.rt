@@ -10,6 +10,7 @@ use argon2_policy::Policy;
 use argon2_store::{AccountFile, FileError};
 use rand_core::Rng;
 use sqlite_trees::store::Store;
+use std::fmt;
 
 /// Names with passwords in a file: a policy that says what becomes of a text, and the file with the
 /// texts, which has the calls that need no password.
@@ -137,6 +138,15 @@ impl<'key, S: Store> Accounts<'key, S> {
     {
         let text = self.policy.hash_password(rng, new)?;
         self.file.set(name, &text).map_err(AccountError::from)
+    }
+}
+
+impl<S: Store> fmt::Debug for Accounts<'_, S> {
+    fn fmt<W: fmt::Write>(&self, f: &mut fmt::Formatter<W>) -> fmt::Result {
+        f.debug_struct("Accounts")
+            .field("policy", &self.policy)
+            .field("file", &self.file)
+            .finish()
     }
 }
 

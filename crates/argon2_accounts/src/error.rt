@@ -1,22 +1,20 @@
 //! Why calls on accounts are refused or fail.
 
-ghost use Rattle.std.specs.Prelude.{◌≡◌};
-ghost use Rattle.argon2_accounts.specs.Errors.{Denied, File, Refused, is_account_refusal};
+ghost use Rattle.std.specs.Prelude.{◌≡◌, Some};
+ghost use Rattle.argon2_accounts.specs.Errors.{Denied, File, Refused, account_error_text, is_account_refusal};
 
 use argon2::password_hash;
 use argon2_policy::Denial;
 use argon2_store::FileError;
-use thiserror::Error;
+use std::fmt;
 
 /// Why a call on accounts is refused or fails. The names are then as before it, unless the disk failed
 /// during a commit.
-#[derive(Clone, Copy, Debug, PartialEq, Eq, Error)]
+#[derive(Clone, Copy, Debug, PartialEq, Eq)]
 pub enum AccountError {
     /// What the name has does not accept the password, or no text is made of a password.
-    #[error("{0}")]
     Denied(Denial),
     /// The file refuses the call, or fails.
-    #[error("{0}")]
     File(FileError),
 }
 
@@ -34,6 +32,19 @@ impl AccountError {
         }
     }
 }
+
+impl fmt::Display for AccountError {
+    ghost output = { λ e. Some (account_error_text e) };
+
+    fn fmt<W: fmt::Write>(&self, f: &mut fmt::Formatter<W>) -> fmt::Result {
+        match self {
+            AccountError::Denied(why) => write!(f, "{why}"),
+            AccountError::File(error) => write!(f, "{error}"),
+        }
+    }
+}
+
+impl std::error::Error for AccountError {}
 
 impl From<FileError> for AccountError {
     ghost from_gives = { λ e error. error ≡ File e };

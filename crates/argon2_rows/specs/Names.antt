@@ -1,6 +1,7 @@
 -- Names with their texts, and several that are added, one after the other.
-use Rattle.std.specs.Prelude.{◌≡◌, ℕ, ◌<◌, List, [], ◌∷◌, length, slice_index_or, take, Option, Some, None, IsSome, Result, Ok, Err, ⊤}
+use Rattle.std.specs.Prelude.{◌≡◌, ℕ, ◌<◌, List, [], ◌∷◌, ◌++◌, codes, length, slice_index_or, take, Option, Some, None, IsSome, Result, Ok, Err, ⊤}
 pub use Rattle.std.specs.Borrow.{Bor}
+use Rattle.std.specs.Fmt.{decimal}
 pub use Rattle.std.specs.Cmp.Lexicographic.{slice_cmp}
 pub use Rattle.std.specs.FinMap.{FinMap, entries, get, insert, remove}
 pub use Rattle.std.specs.Ordering.{nat_cmp}
@@ -38,3 +39,8 @@ abbrev pub AddsEach : Texts → List (List ℕ × List ℕ) → Texts → Result
 AddsEach before es after (Ok _) = AddsAll before es after
 AddsEach before es after (Err (Taken k)) = IsFirstTaken before es k
 AddsEach before es after (Err (Store _)) = ⊤
+
+-- what an error of adding prints; of the store's nothing is known
+abbrev pub add_error_text : AddError → Option (List ℕ)
+add_error_text (Taken k) = Some (codes "the name at index " ++ decimal k ++ codes " is taken")
+add_error_text (Store e) = None

@@ -3,7 +3,7 @@
 
 ghost use Rattle.std.specs.Prelude.{◌≡◌, Any, Err, None, Some, IfErr, IsUtf8, OnOk, map};
 ghost use Rattle.sqlite_trees.specs.View.{KeepsSchema};
-ghost use Rattle.argon2_rows.specs.Names.{AddsEach, Store, Texts, changed, entry_of, get};
+ghost use Rattle.argon2_rows.specs.Names.{AddsEach, Store, Texts, add_error_text, changed, entry_of, get};
 ghost use Rattle.argon2_rows.specs.Rows.{AreTexts};
 ghost use Rattle.argon2_rows.specs.Table.{EndsRead, Finishes, HasBegun, IsHonest, IsKept, IsLong, Sees, StaysQuiet, Writes, written_of, plain, Index};
 
@@ -12,15 +12,29 @@ use crate::text::StoredText;
 use sqlite_trees::error::StoreError;
 use sqlite_trees::store::Store;
 use sqlite_value::row::Row;
+use std::fmt;
 
 /// Why names are not all added.
-#[derive(Clone, Copy, Debug)]
+#[derive(Clone, Copy, Debug, PartialEq, Eq)]
 pub enum AddError {
     /// The name at this index has a row.
     Taken(usize),
     /// The store can't be read or written.
     Store(StoreError),
 }
+
+impl fmt::Display for AddError {
+    ghost output = { add_error_text };
+
+    fn fmt<W: fmt::Write>(&self, f: &mut fmt::Formatter<W>) -> fmt::Result {
+        match self {
+            AddError::Taken(index) => write!(f, "the name at index {index} is taken"),
+            AddError::Store(error) => write!(f, "{error}"),
+        }
+    }
+}
+
+impl std::error::Error for AddError {}
 
 impl From<StoreError> for AddError {
     ghost from_gives = { λ e error. error ≡ Store e };

@@ -105,6 +105,12 @@ file_error_text Full = codes "the disk or the file is full"
 file_error_text TooLong = codes "name or text is too long"
 file_error_text Closed = codes "the file has to be opened again"
 
+-- what an error of lines prints; of the system's own nothing is known
+abbrev pub line_error_text : LineError → Option (List ℕ)
+line_error_text (File e) = Some (file_error_text e)
+line_error_text Breaks = Some (codes "the line of a name would read as that of another")
+line_error_text (Write why) = None
+
 -- what an error of an open prints; of the system's own nothing is known
 abbrev pub open_error_text : OpenError → Option (List ℕ)
 open_error_text (Path why) = None

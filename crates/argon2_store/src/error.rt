@@ -1,7 +1,7 @@
 //! Why calls on an account file are refused.
 
 ghost use Rattle.std.specs.Prelude.{◌≡◌, Some};
-ghost use Rattle.argon2_store.specs.Errors.{IsOfDatabase, OutOfMemory, call_error, file_error_text, files_error, is_refusal, lines_by, log_error, file_error, open_error_text, path_error, read_of, store_error};
+ghost use Rattle.argon2_store.specs.Errors.{IsOfDatabase, OutOfMemory, call_error, file_error_text, files_error, is_refusal, line_error_text, lines_by, log_error, file_error, open_error_text, path_error, read_of, store_error};
 ghost use Rattle.argon2_store.specs.declared.error.OpenError.TheVariants as no;
 
 use argon2_rows::Written;
@@ -134,6 +134,20 @@ pub enum LineError {
     /// The output can't be written.
     Write(io::Error),
 }
+
+impl fmt::Display for LineError {
+    ghost output = { line_error_text };
+
+    fn fmt<W: fmt::Write>(&self, f: &mut fmt::Formatter<W>) -> fmt::Result {
+        match self {
+            LineError::File(error) => write!(f, "{error}"),
+            LineError::Breaks => f.write_str("the line of a name would read as that of another"),
+            LineError::Write(error) => write!(f, "{error}"),
+        }
+    }
+}
+
+impl std::error::Error for LineError {}
 
 /// Why a file is not opened. The accounts in it are then as they were.
 #[derive(Clone, Copy, Debug)]
