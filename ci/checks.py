@@ -81,13 +81,23 @@ def end(cases):
 
 
 def check_options(name, said):
-    """Requires that a program's man page and its completion have the options of its long help, and no others."""
+    """Requires that a program's man page and its completion have the options of its long help, with the same arguments.
+
+    They have them at the heads of paragraphs and in `options=`. No text of the two pages names another option.
+    """
     words = f'. "$0"; COMP_WORDS=({name} --) COMP_CWORD=1; _argon2_programs {name}; echo "${{COMPREPLY[*]}}"'
-    ran = execute(["bash", "-c", words, f"{ROOT}/scripts/completion"], capture_output=True, text=True, check=True)
-    with open(f"{ROOT}/man/{name}.1", encoding="utf-8") as it:
-        texts = (said, it.read().replace("\\-", "-"), ran.stdout)
-    wanted, *found = ({*re.findall(r"--[a-z][a-z-]+", text)} for text in texts)
-    check(wanted and all(it == wanted for it in found), name, *(wanted ^ it for it in found))
+    offered = execute(["bash", "-c", words, f"{ROOT}/scripts/completion"], capture_output=True, text=True, check=True).stdout
+    pages = [said]
+    for path in f"man/{name}.1", "scripts/completion":
+        with open(f"{ROOT}/{path}", encoding="utf-8") as it:
+            pages.append(it.read().replace("\\-", "-").replace('"', ""))
+    heads = rf"^ +(?:-\w, |{name} )?(--.*)", r"^\.TP\n(.*)", rf"^ {{8}}{name}\)([^;]*)"
+    found = ["\n".join(re.findall(head, page, re.MULTILINE)) for head, page in zip(heads, pages, strict=True)]
+    wanted, *others = ({*re.findall(r"(--[a-z-]+)(?:[ =]+<?([A-Z]+))?", it)} for it in found)
+    check(wanted and all(it == wanted for it in others), name, *(wanted ^ it for it in others))
+    for text in (offered, *pages[:2]):
+        named = {*re.findall(r"--[a-z][a-z-]+", text)}
+        check(named == {it for it, _ in wanted}, name, named)
 
 
 def newest_source():
