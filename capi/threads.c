@@ -1,6 +1,18 @@
 /*
  * Lanes filled by several threads; argon2.c includes this. The memory is laid out slice by slice, in each slice lane by
  * lane, so that a segment, the slices before its own and those behind it are three ranges that lie apart.
+ *
+ * The tag is that of the law `segments_apart` under these conditions, which this C keeps and no proof sees. With S = m / (4 p):
+ * - All calls of a hash have the same request, secret and data, and argon2_c_finish an output of the length given to
+ *   argon2_c_begin.
+ * - One memory of 4 S p blocks lives through all calls. argon2_c_begin has its first slice and argon2_c_finish its last.
+ * - argon2_c_segment has, of slice k and lane l, the first k S p blocks of it, the S blocks from (k p + l) S on, and all from
+ *   (k + 1) S p on.
+ * - Each pass, slice and lane has one such call, after argon2_c_begin. All of a slice return before one of the next slice
+ *   begins, in each pass in turn, and what they wrote is seen by those that follow.
+ * - Nothing else writes to the memory from argon2_c_begin to the last segment, and to the last slice until argon2_c_finish
+ *   returns.
+ * - Each call's answer is looked at, and if one is not 0 no tag is given.
  */
 #include <pthread.h>
 #include <sched.h>
