@@ -36,8 +36,8 @@ int32_t argon2_c_phc_encode(const struct request *, bytes keyid, size_t, bytes d
 int32_t argon2_c_phc_show(bytes text, size_t, struct phc_shown *);
 int32_t argon2_c_phc_renewal(const struct request *, size_t output, bytes keyid, size_t, bytes data, size_t,
     bytes text, size_t);
-int32_t argon2_c_phc_verify(const struct phc_bound *, bytes text, size_t, bytes pwd, size_t, bytes secret, size_t,
-    block *memory, size_t);
+int32_t argon2_c_phc_admit(const struct phc_bound *, bytes text, size_t, size_t pwd, size_t secret, size_t old_secret,
+    struct phc_shown *);
 int32_t argon2_c_fill(const struct request *, bytes pwd, size_t, bytes salt, size_t, bytes secret, size_t,
     bytes associated, size_t, block *memory, size_t);
 
@@ -223,45 +223,21 @@ int argon2p_needs_rehash(const argon2p_params *wanted, const char *text, size_t 
 
 /* ---- verifying */
 
-/* A text, and what it is verified by. */
-struct verifying {
-    const struct phc_bound *bound;
-    const struct phc_shown *shown;
-    bytes text;
-    size_t text_len;
-    bytes pwd;
-    size_t pwd_len;
-};
-
-/* Why a text can't be verified under a secret, or ARGON2P_OK. */
-static int verify_refusal(const struct verifying *v, const void *secret, size_t n) {
-    const int answer = argon2_c_phc_verify(v->bound, v->text, v->text_len, v->pwd, v->pwd_len, some(secret), n, (block *)nothing, 0);
-    return answer == ARGON2_INCORRECT_PARAMETER ? ARGON2P_OK : answer; /* nothing is wrong but that there was no memory */
-}
-
-/* Verifies a text that nothing refuses, on memory of as many blocks as it asks for. */
-static int verify_under(const struct verifying *v, argon2_context *c, const void *secret, size_t n, block *memory) {
-    uint8_t tag[ARGON2P_MAX_OUTPUT];
-    int answer;
-    c->out = tag, c->secret = (uint8_t *)secret, c->secretlen = (uint32_t)n;
-    if (worker_count(c) > 1) {
-        answer = hash_on(c, v->shown->algorithm, tag, memory, true);
-        if (answer == ARGON2_OK) answer = argon2_c_compare(v->shown->output, v->shown->output_len, tag, c->outlen);
-        wipe(tag, sizeof tag);
-    } else {
-        answer = argon2_c_phc_verify(v->bound, v->text, v->text_len, v->pwd, v->pwd_len, some(secret), n, memory, block_count(c));
-        if (answer == ARGON2_INCORRECT_PARAMETER) answer = ARGON2P_TEXT_INVALID; /* it was changed, and now needs more memory */
-        wipe(memory, block_count(c) * sizeof(block));
-    }
+/* Makes the tag of a context on `memory`, and compares it with a text's. */
+static int verify_on(const argon2_context *c, const struct phc_shown *shown, block *memory) {
+    int answer = hash_on(c, shown->algorithm, c->out, memory, true);
+    if (answer == ARGON2_OK) answer = argon2_c_compare(shown->output, shown->output_len, c->out, c->outlen);
+    wipe(c->out, c->outlen);
     return answer;
 }
 
+/* By the law `verifying_within` of argon2_c all three calls return 0 exactly if the text accepts the password. */
 int argon2p_verify(const argon2p_verifier *verifier, const char *text, size_t text_len, const void *pwd, size_t pwd_len,
     int *by_old_secret) {
+    uint8_t tag[ARGON2P_MAX_OUTPUT];
     argon2p_verifier own;
     struct phc_bound bound;
     struct phc_shown shown = {0};
-    struct verifying v;
     argon2_context c;
     block *memory;
     bool is_old = false;
@@ -271,21 +247,20 @@ int argon2p_verify(const argon2p_verifier *verifier, const char *text, size_t te
     if (lacks(pwd, pwd_len)) return ARGON2P_PASSWORD_NULL;
     if (lacks(own.secret, own.secret_len) || lacks(own.old_secret, own.old_secret_len)) return ARGON2P_SECRET_NULL;
     bound = (struct phc_bound){own.m_cost, own.t_cost, own.p_cost, own.min_output, own.max_output};
-    v = (struct verifying){&bound, &shown, some(text), text_len, some(pwd), pwd_len};
-    answer = verify_refusal(&v, own.secret, own.secret_len);
-    if (answer == ARGON2P_OK) answer = verify_refusal(&v, own.old_secret, own.old_secret_len);
-    if (answer == ARGON2P_OK) answer = argon2_c_phc_show(v.text, v.text_len, &shown);
+    answer = argon2_c_phc_admit(&bound, some(text), text_len, pwd_len, own.secret_len, own.old_secret_len, &shown);
     if (answer != ARGON2P_OK) return answer;
     c = (argon2_context){
-        .outlen = shown.output_len, .pwd = (uint8_t *)v.pwd, .pwdlen = (uint32_t)pwd_len,
-        .salt = shown.salt, .saltlen = shown.salt_len, .ad = shown.associated, .adlen = shown.associated_len,
-        .t_cost = shown.t_cost, .m_cost = shown.m_cost, .lanes = shown.p_cost,
-        .threads = own.threads && own.threads < shown.p_cost ? own.threads : shown.p_cost, .version = shown.version,
+        .out = tag, .outlen = shown.output_len, .pwd = some(pwd), .pwdlen = (uint32_t)pwd_len,
+        .salt = shown.salt, .saltlen = shown.salt_len, .secret = (uint8_t *)own.secret, .secretlen = (uint32_t)own.secret_len,
+        .ad = shown.associated, .adlen = shown.associated_len, .t_cost = shown.t_cost, .m_cost = shown.m_cost,
+        .lanes = shown.p_cost, .threads = own.threads && own.threads < shown.p_cost ? own.threads : shown.p_cost,
+        .version = shown.version,
     };
     memory = new_blocks(block_count(&c));
-    answer = memory ? verify_under(&v, &c, own.secret, own.secret_len, memory) : ARGON2P_OUT_OF_MEMORY;
+    answer = memory ? verify_on(&c, &shown, memory) : ARGON2P_OUT_OF_MEMORY;
     if (answer == ARGON2P_MISMATCH && own.has_old_secret) {
-        answer = verify_under(&v, &c, own.old_secret, own.old_secret_len, memory);
+        c.secret = (uint8_t *)own.old_secret, c.secretlen = (uint32_t)own.old_secret_len;
+        answer = verify_on(&c, &shown, memory);
         is_old = true;
     }
     if (memory) free_blocks(memory, block_count(&c));

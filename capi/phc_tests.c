@@ -502,11 +502,11 @@ static void stacks_of_calls(void) {
 #endif
 
 #ifdef REFUSES
-/* A text that asks for more memory once its memory is there. */
+/* A text that asks for more memory once its memory is there: it was read before. */
 static void changed_text(void) {
-    char text[] = PLAIN;
+    char text[] = TEXT;
     changing = strchr(text, '6');
-    check(verify(verifier(), text, "password", NULL) == ARGON2P_TEXT_INVALID && strstr(text, "m=94"), "a changed text", 0);
+    check(verify(verifier(), text, "password", NULL) == ARGON2P_OK && strstr(text, "m=94"), "a changed text", 0);
 }
 
 static void refused_memory(void) {

@@ -1,7 +1,7 @@
 // What each entry of the package has. The functions of the module are proved to decide, hash, read and write texts as their
 // contracts say; this copies their inputs and outputs, and names what they answer.
 
-import { Argon2Error, MISMATCH, must, NO_BLOCKS } from "./error.mjs";
+import { Argon2Error, MISMATCH, must } from "./error.mjs";
 import { Instance } from "./instance.mjs";
 
 export { Argon2Error };
@@ -47,21 +47,18 @@ export class Argon2 {
     return this.#use((instance) => {
       const limits = instance.writeNumbers(...Object.entries(most).map(([name, value]) => whole(value, `the bound's ${name}`)));
       const [stored, given] = [instance.write(text, "the text"), instance.write(password, "the password")];
-      const secrets = [instance.write(secret, "the secret")];
-      if (oldSecret !== undefined) secrets.push(instance.write(oldSecret, "the old secret"));
-      const verifyUnder = (key, blocks) => instance.call("phc_verify", limits, ...stored, ...given, ...key, ...blocks);
-      const none = instance.lend(0, 16);
-      for (const key of secrets) {
-        const answer = verifyUnder(key, none);
-        if (answer !== NO_BLOCKS) throw new Argon2Error(answer);
-      }
-      const { memory, lanes } = show(instance, stored);
-      const count = blockCount(memory, lanes);
-      const blocks = instance.lendBlocks(count)(0, count);
-      return secrets.some((key) => {
-        const answer = verifyUnder(key, blocks);
+      const key = instance.write(secret, "the secret");
+      const oldKey = oldSecret === undefined ? undefined : instance.write(oldSecret, "the old secret");
+      const shown = show(instance, "phc_admit", limits, ...stored, given[1], key[1], oldKey?.[1] ?? 0n);
+      const inputs = new Inputs(instance, { ...shown, length: shown.hash.length, secret: "" }, "", shown.salt);
+      const hash = instance.write(shown.hash, "the hash");
+      inputs.password = given;
+      const accepts = (secret) => {
+        inputs.secret = secret;
+        const answer = instance.call("compare", ...hash, ...inputs.tag());
         return answer === MISMATCH ? false : must(answer) === 0;
-      });
+      };
+      return accepts(key) || (oldKey !== undefined && accepts(oldKey));
     });
   }
 
@@ -79,7 +76,7 @@ export class Argon2 {
 
   /** What a text shows. */
   parse(text) {
-    return this.#use((instance) => show(instance, instance.write(text, "the text")));
+    return this.#use((instance) => show(instance, "phc_show", ...instance.write(text, "the text")));
   }
 
   /** The hash alone, as a key, say. */
@@ -135,6 +132,7 @@ export class Argon2 {
 class Inputs {
   #instance;
   #wanted;
+  #lent;
 
   constructor(instance, wanted, password, salt) {
     const { memory, passes, lanes, version } = wanted;
@@ -163,12 +161,12 @@ class Inputs {
     return this.refusal("tag_refusal", BigInt(this.#wanted.length), this.password[1], this.salt[1]);
   }
 
-  // The place of the tag of inputs that are not refused.
+  // The place of the tag of inputs that are not refused. The next tag has the same blocks, and the same place.
   tag() {
     const { password, salt, secret, data } = this;
     const count = blockCount(this.#wanted.memory, this.#wanted.lanes);
-    const blocks = this.#instance.lendBlocks(count)(0, count);
-    const out = this.#instance.lend(this.#wanted.length);
+    this.#lent ??= [this.#instance.lendBlocks(count)(0, count), this.#instance.lend(this.#wanted.length)];
+    const [blocks, out] = this.#lent;
     must(this.#instance.call("hash", this.request, ...password, ...salt, ...secret, ...data, ...blocks, ...out));
     return out;
   }
@@ -208,10 +206,10 @@ class Inputs {
   }
 }
 
-// What the text at a place shows.
-function show(instance, text) {
+// What a call shows of a text.
+function show(instance, name, ...words) {
   const place = instance.lend(SHOWN_SIZE);
-  must(instance.call("phc_show", ...text, place[0]));
+  must(instance.call(name, ...words, place[0]));
   const [salt, hash, algorithm, version, memory, passes, lanes, keyid, data] = instance.readNumbers(place, 14).slice(5);
   const bytes = instance.read(place);
   const part = (at, length) => bytes.slice(at, at + length);

@@ -18,6 +18,4 @@ export function must(number) {
 }
 
 export const OUT_OF_MEMORY = -22;
-/** What a verification answers if it lacks nothing but blocks. */
-export const NO_BLOCKS = -25;
 export const MISMATCH = -35;

@@ -1,16 +1,15 @@
--- What a text of the grammar shows to a C caller, and when it accepts a password.
-use Rattle.std.specs.Prelude.{◌≡◌, ℕ, ◌+◌, ◌==◌, ◌&&◌, ◌||◌, nat_lt, nat_le, not, Bool, ℤ, Result, Ok, Err, if◌then◌else◌, List, [], ◌∷◌, ◌++◌, ◌-◌, codes, length, replicate, unwrap_or}
+-- What a text of the grammar shows to a C caller, and when a bound admits it.
+use Rattle.std.specs.Prelude.{◌≡◌, ◌⊎◌, ℕ, ◌+◌, ◌==◌, ◌&&◌, ◌||◌, nat_lt, nat_le, Bool, false, ℤ, Result, Ok, Err, if◌then◌else◌, List, [], ◌∷◌, ◌++◌, ◌-◌, codes, length, replicate, unwrap_or}
 use Rattle.std.specs.Str.{bytes_eq}
 use Rattle.argon2_base.specs.Error.{Fault, bad_algorithm, bad_param, bad_params, bad_password, bad_version}
-use Rattle.argon2_base.specs.PhcText.{Phc, fields_text, field, params_text, version_text}
+use Rattle.argon2_base.specs.PhcText.{Phc, PhcText, fields_text, field, params_text, version_text}
 use Rattle.argon2.specs.ListedParameters.{asked_of}
 use Rattle.argon2.specs.Refusals.{first_of, max_len}
-use Rattle.argon2.specs.Argon2.{context_with}
-use Rattle.argon2.specs.Rfc9106.{block_count_for, tag_of}
 use Rattle.argon2.specs.Settings.{Parameters, Settings, algorithm_number, version_number}
 use Rattle.argon2.specs.StoredTexts.{Stored, shown_settings, stored_of}
 use Rattle.argon2.specs.declared.bound.Bound.{Bound}
-use Rattle.argon2_c.specs.declared.code.TheConstants.{OK, CURRENT, OTHER, BELOW, PWD_TOO_LONG, SECRET_TOO_LONG, INCORRECT_PARAMETER, VERIFY_MISMATCH, NO_ALGORITHM, NO_VERSION, TEXT_INVALID, TEXT_MEMORY, TEXT_PASSES, TEXT_LANES, TEXT_KEYID, TEXT_DATA, TEXT_PARAMETERS, TEXT_INCOMPLETE, ABOVE_BOUND, OUTPUT_OUT_OF_BOUND}
+use Rattle.argon2_c.specs.declared.code.TheConstants.{OK, CURRENT, OTHER, BELOW, PWD_TOO_LONG, SECRET_TOO_LONG, NO_ALGORITHM, NO_VERSION, TEXT_INVALID, TEXT_MEMORY, TEXT_PASSES, TEXT_LANES, TEXT_KEYID, TEXT_DATA, TEXT_PARAMETERS, TEXT_INCOMPLETE, ABOVE_BOUND, OUTPUT_OUT_OF_BOUND}
+use Rattle.argon2_c.specs.Requests.{IsFaultless}
 use Rattle.argon2_c.specs.declared.request.Request.{Request}
 use Rattle.argon2_c.specs.declared.phc.shown.PhcShown.{PhcShown}
 use Rattle.argon2_c.specs.declared.phc.verify.PhcBound.{PhcBound}
@@ -114,7 +113,7 @@ renewal_code wanted output keyid associated v = code_of (coded (shown_settings v
     if is_below wanted output shown hash then BELOW
     else if is_wanted wanted output keyid associated shown hash then CURRENT else OTHER)
 
--- ---- verifying
+-- ---- admitting
 
 -- the bound on costs
 abbrev pub bound_of : PhcBound → Bound
@@ -136,20 +135,44 @@ admitted_of bound v = coded (asked_of v) (λ parameters.
     if is_sized bound stored.hash then Ok stored else Err OUTPUT_OUT_OF_BOUND)
     else Err ABOVE_BOUND)
 
--- why lengths of a password and a secret, and then so many blocks of memory, are refused
-abbrev pub verify_faults : Stored → ℕ → ℕ → ℕ → List (Bool × ℤ)
-verify_faults stored password secret blocks =
+-- why a password and two secrets of so many bytes are refused
+abbrev pub key_faults : ℕ → ℕ → ℕ → List (Bool × ℤ)
+key_faults password secret old_secret =
     (nat_lt max_len password, PWD_TOO_LONG)
     ∷ (nat_lt max_len secret, SECRET_TOO_LONG)
-    ∷ (not (blocks == block_count_for stored.settings.parameters.m_cost stored.settings.parameters.p_cost), INCORRECT_PARAMETER)
+    ∷ (nat_lt max_len old_secret, SECRET_TOO_LONG)
     ∷ []
 
--- 0 if the hash is the password's tag under the secret
-abbrev pub tag_code : Stored → List ℕ → List ℕ → ℤ
-tag_code stored password secret = if bytes_eq stored.hash
-    (tag_of (context_with stored.settings secret) password stored.salt (length stored.hash)) then OK else VERIFY_MISMATCH
+-- 0, or why a value is not admitted for a password and two secrets of so many bytes
+abbrev pub admit_code : PhcBound → ℕ → ℕ → ℕ → Phc → ℤ
+admit_code bound password secret old_secret v =
+    code_of (admitted_of bound v) (λ _. unwrap_or (first_of (key_faults password secret old_secret)) OK)
 
--- what verifying a value answers on so many blocks
-abbrev pub phc_verify_code : PhcBound → List ℕ → List ℕ → ℕ → Phc → ℤ
-phc_verify_code bound password secret blocks v = code_of (admitted_of bound v) (λ stored.
-    unwrap_or (first_of (verify_faults stored (length password) (length secret) blocks)) (tag_code stored password secret))
+-- the request that is shown, with so many threads
+abbrev pub admitted_request : ℕ → PhcShown → Request
+admitted_request threads shown = record {
+  algorithm = shown.algorithm;
+  version = shown.version;
+  m_cost = shown.m_cost;
+  t_cost = shown.t_cost;
+  lanes = shown.p_cost;
+  threads = threads;
+  lacks_output = false;
+  lacks_pwd = false;
+  lacks_salt = false;
+  lacks_secret = false;
+  lacks_associated = false;
+  has_allocate = false;
+  has_free = false;
+}
+
+-- what admitting answers for a password and two secrets of so many bytes: the code, and what is then shown
+pub record IsAdmitted (bound : PhcBound) (text : List ℕ) (password secret old_secret : ℕ) (code : ℤ) (shown : PhcShown) : Type 0
+  where
+    pub said : (v : Phc) → PhcText text v → code ≡ admit_code bound password secret old_secret v
+    pub found : code ≡ OK → (v : Phc) × PhcText text v
+    pub unsaid : ((v : Phc) → PhcText text v → ⊥) → code ≡ TEXT_INVALID
+    pub shows : (v : Phc) (stored : Stored) → code ≡ OK → PhcText text v → admitted_of bound v ≡ Ok stored
+        → ShowsFields v shown × ShowsSettings stored.settings shown
+    pub faultless : (threads key : ℕ) → code ≡ OK → (key ≡ secret) ⊎ (key ≡ old_secret)
+        → IsFaultless (admitted_request threads shown) shown.output_len password shown.salt_len key shown.associated_len

@@ -1,7 +1,7 @@
-//! A law on calls: it is the contract of a function without parameters, and calling it does nothing.
+//! Laws on calls: each is the contract of a function without parameters, and calling it does nothing.
 
 ghost use Rattle.std.specs.Prelude.{◌≡◌, ◌↔◌};
-ghost use Rattle.argon2_c.specs.Verification.{IsAccepted, Verification};
+ghost use Rattle.argon2_c.specs.Verification.{BoundVerification, IsAccepted, IsAcceptedWithin, Verification};
 
 use crate::code::OK;
 
@@ -11,4 +11,13 @@ pub fn verifying()
     ensures hashes { (c : Verification) → c.decoded ≡ OK → c.hashed ≡ OK }
     ensures accepts { (c : Verification) → (c.decoded ≡ OK) × (c.hashed ≡ OK) × (c.compared ≡ OK)
         ↔ IsAccepted c }
+{}
+
+/// A bound admits a text, its hash is made again under a secret or an old one, and the two are compared. If the first call
+/// answers 0, so does the second. All three answer 0 exactly if the text accepts the password within the bound under that
+/// secret, its hash has a length that the bound allows, and neither secret is longer than 4294967295 bytes.
+pub fn verifying_within()
+    ensures hashes { (c : BoundVerification) → c.admitted ≡ OK → c.hashed ≡ OK }
+    ensures accepts { (c : BoundVerification) → (c.admitted ≡ OK) × (c.hashed ≡ OK) × (c.compared ≡ OK)
+        ↔ IsAcceptedWithin c }
 {}

@@ -4,7 +4,7 @@ ghost use Rattle.std.specs.Prelude.{◌≡◌, ◌≤◌, ◌-◌, ◌++◌, [],
 ghost use Rattle.argon2_base.specs.Error.{Fault};
 ghost use Rattle.argon2_base.specs.PhcFields.{phc_of};
 ghost use Rattle.argon2_base.specs.PhcText.{Phc, PhcText, field, fields_text, version_text};
-ghost use Rattle.argon2.specs.Settings.{Settings as Shown};
+ghost use Rattle.argon2.specs.Settings.{AreValid, Settings as Shown};
 ghost use Rattle.argon2.specs.StoredTexts.{settings_value, shown_settings};
 ghost use Rattle.argon2_c.specs.PhcReading.{ShowsFields, ShowsNoSettings, ShowsSettings, is_below, is_wanted, renewal_code, show_code};
 
@@ -93,14 +93,13 @@ fn show(hash: &PasswordHash, shown: &mut PhcShown) -> i32
     ensures no_settings { (fault : Fault) → shown_settings (phc_of hash.now) ≡ Err fault
         → ShowsNoSettings shown.new }
 {
-    let fields = fields(hash);
     match Settings::try_from(hash) {
         Ok(settings) => {
-            *shown = with_settings(fields, &settings);
+            *shown = with_settings(hash, &settings);
             OK
         }
         Err(error) => {
-            *shown = fields;
+            *shown = fields(hash);
             text_code(&error)
         }
     }
@@ -191,11 +190,14 @@ fn list<const N: usize>(bytes: &[u8]) -> ByteList<N>
     list
 }
 
-// The fields with settings.
-fn with_settings(mut shown: PhcShown, settings: &Settings) -> PhcShown
+/// What a text shows that has these settings.
+pub fn with_settings(hash: &PasswordHash, settings: &Settings) -> PhcShown
+    ensures fields { ShowsFields (phc_of hash.now) result }
     ensures settings { ShowsSettings (settings_value settings.now) result }
-    ensures fields { (v : Phc) → ShowsFields v shown → ShowsFields v result }
+    ensures valid { AreValid (settings_value settings.now).parameters }
+    ensures fits { result.associated_len ≤ 32 }
 {
+    let mut shown = fields(hash);
     let params = &settings.params;
     let keyid = list::<8>(params.keyid());
     let keyid_bytes = keyid.bytes;

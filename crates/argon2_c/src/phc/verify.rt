@@ -1,25 +1,19 @@
-//! Whether a text accepts a password under a secret, within a bound.
+//! Whether a bound admits a text that is to be verified.
 
-ghost use Rattle.std.specs.Prelude.{◌≡◌, ◌⊎◌, ◌≤◌, length};
+ghost use Rattle.std.specs.Prelude.{◌≡◌, ◌≢◌};
 ghost use Rattle.std.specs.Result.{result_map_both};
 ghost use Rattle.argon2_base.specs.PhcFields.{phc_of};
-ghost use Rattle.argon2_base.specs.PhcText.{Phc, PhcText};
-ghost use Rattle.argon2.specs.Bound.{AcceptsWithin};
 ghost use Rattle.argon2.specs.Argon2.{parameters_of};
-ghost use Rattle.argon2.specs.Refusals.{max_len};
-ghost use Rattle.argon2.specs.Rfc9106.{block_count_for};
+ghost use Rattle.argon2.specs.Refusals.{first_of};
 ghost use Rattle.argon2.specs.StoredTexts.{stored_value};
-ghost use Rattle.argon2_c.specs.declared.code.TheConstants.{VERIFY_MISMATCH};
-ghost use Rattle.argon2_c.specs.PhcReading.{admitted_of, bound_of, is_within, phc_verify_code, tag_code};
+ghost use Rattle.argon2_c.specs.PhcReading.{IsAdmitted, admitted_of, is_within, key_faults};
 
 use super::fault::text_code;
 use super::reading::read;
+use super::shown::{PhcShown, with_settings};
 use crate::code::*;
-use crate::hash::argon2_c_compare;
-use argon2::password_hash::{Settings, Stored};
-use argon2::phc::Output;
-use argon2::{Argon2, MAX_PWD_LEN, MAX_SECRET_LEN, Params, PasswordHash};
-use argon2_base::block::Words;
+use argon2::password_hash::Stored;
+use argon2::{MAX_PWD_LEN, MAX_SECRET_LEN, Params, PasswordHash};
 
 /// The most that a text may ask for, and the lengths that its hash may have.
 #[repr(C)]
@@ -37,11 +31,11 @@ pub struct PhcBound {
     pub max_output: u32,
 }
 
-/// Whether a text accepts a password under a secret, within a bound: 0 if it does, and -35 if it does not.
-/// It is hashed on lent memory, whatever that held.
+/// Admits a text that asks for no more than a bound, for a password, a secret and an old secret of so many bytes, 0 if there is
+/// none. Writes what the text shows into `shown`, and returns 0. `argon2_c_hash` then takes the request that is shown.
 ///
 /// # Errors
-/// The first of these that holds; the memory is then as before:
+/// The first of these that holds; `shown` is then as before:
 /// - -80: the text is outside the grammar.
 /// - the code of the first fault of the text's parameters.
 /// - -88: a cost is above the bound's.
@@ -49,56 +43,31 @@ pub struct PhcBound {
 /// - -70: no variant has the identifier.
 /// - -71: no version has the number.
 /// - -89: the bound does not allow the length of the hash.
-/// - -5, -11: the password or the secret is longer than 4294967295 bytes.
-/// - -25: `memory` has another length than the blocks that are filled. A caller finds all others by a call without
-///   memory.
+/// - -5, -11: the password or a secret is longer than 4294967295 bytes.
 #[unsafe(no_mangle)]
-pub extern "C" fn argon2_c_phc_verify(
+pub extern "C" fn argon2_c_phc_admit(
     bound: &PhcBound,
     text: &[u8],
-    pwd: &[u8],
-    secret: &[u8],
-    memory: &mut [Words],
+    pwd: usize,
+    secret: usize,
+    old_secret: usize,
+    shown: &mut PhcShown,
 ) -> i32
-    ensures said { (v : Phc) → PhcText text.now v
-        → result ≡ phc_verify_code bound.now pwd.now secret.now (length memory.old) v }
-    ensures unsaid { ((v : Phc) → PhcText text.now v → ⊥) → result ≡ TEXT_INVALID }
-    ensures accepted { result ≡ OK
-        → AcceptsWithin (bound_of bound.now) secret.now pwd.now text.now }
-    ensures same { (result ≡ OK) ⊎ (result ≡ VERIFY_MISMATCH) ⊎ (memory.new ≡ memory.old) }
+    ensures admitted { IsAdmitted bound.now text.now pwd secret old_secret result shown.new }
+    ensures refused { result ≢ OK → shown.new ≡ shown.old }
 {
-    match read(text) {
-        Some(hash) => verify(bound, &hash, pwd, secret, memory),
-        None => TEXT_INVALID,
-    }
-}
-
-// Whether a text accepts a password.
-fn verify(
-    bound: &PhcBound,
-    hash: &PasswordHash,
-    pwd: &[u8],
-    secret: &[u8],
-    memory: &mut [Words],
-) -> i32
-    ensures answer { result ≡ phc_verify_code bound.now pwd.now secret.now (length memory.old)
-        (phc_of hash.now) }
-    ensures same { (result ≡ OK) ⊎ (result ≡ VERIFY_MISMATCH) ⊎ (memory.new ≡ memory.old) }
-{
-    let stored = match admitted(bound, hash) {
+    let Some(hash) = read(text) else {
+        return TEXT_INVALID;
+    };
+    let stored = match admitted(bound, &hash) {
         Ok(stored) => stored,
         Err(code) => return code,
     };
-    if pwd.len() > MAX_PWD_LEN {
-        return PWD_TOO_LONG;
+    if let Some(code) = key_refusal(pwd, secret, old_secret) {
+        return code;
     }
-    if secret.len() > MAX_SECRET_LEN {
-        return SECRET_TOO_LONG;
-    }
-    if memory.len() != stored.settings.params.block_count() {
-        return INCORRECT_PARAMETER;
-    }
-    compared(&stored, pwd, secret, memory)
+    *shown = with_settings(&hash, &stored.settings);
+    OK
 }
 
 // What a text is verified by, if the bound admits it.
@@ -133,25 +102,15 @@ fn is_within(bound: &PhcBound, params: &Params) -> bool
         && params.p_cost() <= bound.p_cost
 }
 
-// Whether a password has the hash of a text under a secret.
-fn compared(stored: &Stored<'_>, pwd: &[u8], secret: &[u8], memory: &mut [Words]) -> i32
-    requires lengths { (length pwd.now ≤ max_len) × (length secret.now ≤ max_len) }
-    requires memory { length memory.old
-        ≡ block_count_for (stored_value stored.now).settings.parameters.m_cost
-        (stored_value stored.now).settings.parameters.p_cost }
-    ensures answer { result ≡ tag_code (stored_value stored.now) pwd.now secret.now }
-    ensures two { (result ≡ OK) ⊎ (result ≡ VERIFY_MISMATCH) }
+// Why a password and two secrets of so many bytes are refused.
+fn key_refusal(pwd: usize, secret: usize, old_secret: usize) -> Option<i32>
+    ensures { result ≡ first_of (key_faults pwd secret old_secret) }
 {
-    let Settings {
-        algorithm,
-        version,
-        params,
-    } = stored.settings;
-    let argon2 = Argon2::new_with_secret(secret, algorithm, version, params).unwrap();
-    let mut buffer = [0; Output::MAX_LENGTH];
-    let tag = &mut buffer[..stored.hash.len()];
-    argon2
-        .hash_password_into_with_words(params.data(), pwd, stored.salt.as_bytes(), tag, memory)
-        .unwrap();
-    argon2_c_compare(stored.hash.as_bytes(), tag)
+    if pwd > MAX_PWD_LEN {
+        Some(PWD_TOO_LONG)
+    } else if secret > MAX_SECRET_LEN || old_secret > MAX_SECRET_LEN {
+        Some(SECRET_TOO_LONG)
+    } else {
+        None
+    }
 }
