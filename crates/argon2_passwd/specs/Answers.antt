@@ -25,7 +25,7 @@ pub use Rattle.argon2_store.specs.declared.error.FileError.TheVariants.{Damaged,
 pub use Rattle.argon2_passwd.specs.Options.{policy_by}
 use Rattle.argon2_passwd.specs.declared.command.Action.{Action}
 use Rattle.argon2_passwd.specs.declared.command.Action.TheVariants.{Hash, Check, OnFile}
-use Rattle.argon2_passwd.specs.declared.command.Task.TheVariants.{Verify, Edit as Edits, Show, Import, ImportOthers}
+use Rattle.argon2_passwd.specs.declared.command.Task.TheVariants.{Verify, Edit as Edits, Show, Import, ImportOthers, CheckFile}
 use Rattle.argon2_passwd.specs.declared.options.Options.{Options}
 use Rattle.argon2_passwd.specs.declared.command.EditTask.{EditTask}
 use Rattle.argon2_passwd.specs.declared.command.EditTask.TheVariants.{Register, Change, Set, Remove, Lock, Unlock}
@@ -271,6 +271,8 @@ module _ {S : Type 0} (g : Ghosts S) (Has : List ℕ → Texts → Type 0) (Give
   IsUsed policy (OnFile path (ImportOthers any_text)) result input old new Closed =
       Keeps old new × OfLines any_text input (λ said.
       IsDone g Has path.now (AddsOthers result said) Closed)
+  IsUsed policy (OnFile path CheckFile) result input old new Closed =
+      Keeps old new × (result ≡ Ok tt) × IsDone g Has path.now (λ before after. after ≡ before) Closed
   IsUsed policy _ result input old new Closed = ⊥
 
   -- how a command ended: its file was used, or no file was opened

@@ -36,6 +36,8 @@ pub enum Task<'a> {
     Import(bool),
     /// `import --skip FILE`: the same, but lines that may not be added are passed over.
     ImportOthers(bool),
+    /// `check-file FILE`: whether each row of the file is a name with a text.
+    CheckFile,
 }
 
 impl Task<'_> {
@@ -45,6 +47,11 @@ impl Task<'_> {
             self,
             Task::Edit(EditTask::Register, _) | Task::Import(_) | Task::ImportOthers(_)
         )
+    }
+
+    // Whether each row of the file is checked as it is opened, or those alone that are looked up.
+    pub(crate) fn checks(&self) -> bool {
+        matches!(self, Task::Show(_) | Task::CheckFile)
     }
 }
 

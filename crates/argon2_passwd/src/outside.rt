@@ -63,11 +63,17 @@ pub trait Outside {
     fn look(&self, path: &str, makes: bool) -> Result<(), Failure>
         ensures { IfErr result (λ failure. status_of failure ≡ 3) };
 
-    /// The accounts in the file at a path, which is made if there is none and the command makes it.
+    /// The accounts in the file at a path, which is made if there is none and the command makes it. If it checks the
+    /// file, each row is read first. No clause says so.
     ///
     /// # Errors
     /// The file can't be opened.
-    fn open(&mut self, path: &str, makes: bool) -> Result<AccountFile<Self::File>, Failure>
+    fn open(
+        &mut self,
+        path: &str,
+        makes: bool,
+        checks: bool,
+    ) -> Result<AccountFile<Self::File>, Failure>
         requires { (before : List Self.File) × closed self.old before }
         ensures ready { IfOk result (IsOpened keeps path.now) }
         ensures failed { IfErr result (λ failure. status_of failure ≡ 3) }

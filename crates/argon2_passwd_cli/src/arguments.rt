@@ -43,12 +43,23 @@ const USAGE: &str = "\
 argon2-passwd [OPTIONS] hash
        argon2-passwd [OPTIONS] check TEXT
        argon2-passwd [OPTIONS] register|verify|change|set|remove|lock|unlock FILE NAME
-       argon2-passwd [OPTIONS] list|export|import FILE";
+       argon2-passwd [OPTIONS] list|export|import|check-file FILE";
 
 // The words of the usage.
-const COMMANDS: [&str; 12] = [
-    "hash", "check", "register", "verify", "change", "set", "remove", "lock", "unlock", "list",
-    "export", "import",
+const COMMANDS: [&str; 13] = [
+    "hash",
+    "check",
+    "register",
+    "verify",
+    "change",
+    "set",
+    "remove",
+    "lock",
+    "unlock",
+    "list",
+    "export",
+    "import",
+    "check-file",
 ];
 
 const ABOUT: &str = "\
@@ -76,6 +87,7 @@ most 4096 bytes, and a new one at least one.
   import FILE         add all names and texts of standard input, in the form that export writes, or none;
                       texts are Argon2's, unless --any-text is given, and may be locked; with --skip, pass over
                       the lines that may not be added
+  check-file FILE     read all of FILE, and fail if it is damaged or a row is not a name with a text
 
 FILE is a SQLite database that survives a crash at any moment. register and import make it if there is none.
 It may also stand before the command's word. A path that is such a word is written with ./ before it.";
@@ -220,6 +232,7 @@ fn on_file<'a>(import: Task<'a>, word: &str) -> Option<Task<'a>> {
         "list" => Some(Task::Show(View::Names)),
         "export" => Some(Task::Show(View::Texts)),
         "import" => Some(import),
+        "check-file" => Some(Task::CheckFile),
         _ => None,
     }
 }

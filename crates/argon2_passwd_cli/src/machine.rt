@@ -33,7 +33,9 @@ pub struct Machine<'a> {
 }
 
 impl<'a> Machine<'a> {
-    ghost use Rattle.std.specs.Prelude.{◌≡◌, IfErr};
+    ghost use Rattle.std.specs.Prelude.{◌≡◌, IfErr, IfOk};
+    ghost use Rattle.argon2_rows.specs.Names.{Texts};
+    ghost use Rattle.argon2_store.specs.AccountFile.{IsReady};
     ghost use Rattle.argon2_passwd.specs.Failures.{status_of};
 
     /// The machine of this runtime.
@@ -71,6 +73,19 @@ impl<'a> Machine<'a> {
             Err(error) => return Err(Failure::from(OpenError::Path(error))),
         };
         Err(Failure::Unfit(why))
+    }
+
+    // The accounts in the file at a path, whose rows are all read and checked first, or are supposed to be sound.
+    #[tactic(auto, using(argon2_store::proofs::NextOpenLemmas::empty_held))]
+    fn opened(&self, path: &str, checks: bool) -> Result<AccountsAt<Wary>, Failure>
+        ensures ready { IfOk result (λ file. (names : Texts) × IsReady names file) }
+        ensures failed { IfErr result (λ failure. status_of failure ≡ 3) }
+    {
+        if checks {
+            Ok(AccountFile::open(self.rt, path, Wary)?)
+        } else {
+            Ok(AccountFile::open_sound(self.rt, path, Wary)?)
+        }
     }
 
     // Checks that a file at this path can have a log beside it, whose name is longer.
@@ -139,9 +154,9 @@ impl Outside for Machine<'_> {
     }
 
     // Others may change what is at the path while a password is hashed, so each open looks again.
-    fn open(&mut self, path: &str, makes: bool) -> Result<AccountsAt<Wary>, Failure> {
+    fn open(&mut self, path: &str, makes: bool, checks: bool) -> Result<AccountsAt<Wary>, Failure> {
         let is_there = self.is_there(path, makes)?;
-        let accounts = AccountFile::open(self.rt, path, Wary)?;
+        let accounts = self.opened(path, checks)?;
         self.news.is_made |= !is_there;
         self.paused = None;
         Ok(accounts)

@@ -27,6 +27,8 @@ pub(super) struct Access<'a> {
     pub(super) path: &'a str,
     // Whether the file is made if there is none.
     pub(super) makes: bool,
+    // Whether each row is checked first.
+    pub(super) checks: bool,
     pub(super) policy: &'a Policy<'a>,
 }
 
@@ -52,6 +54,7 @@ pub(super) fn serve<P: Outside, R: BufRead, W: Write>(
             let access = &Access {
                 path,
                 makes,
+                checks: task.checks(),
                 policy,
             };
             match task {
@@ -62,6 +65,7 @@ pub(super) fn serve<P: Outside, R: BufRead, W: Write>(
                 Task::ImportOthers(any_text) => {
                     import_others(alloc, outside, access, any_text, input)
                 }
+                Task::CheckFile => check_file(outside, access),
             }
         }
     }
@@ -105,6 +109,18 @@ fn show<P: Outside, W: Write>(
     written.map_err(Failure::from)
 }
 
+// Opens a file, which checks it, and closes it.
+fn check_file<P: Outside>(outside: &mut P, access: &Access<'_>) -> Result<(), Failure>
+    requires { P.closed outside.old [] }
+    ensures { (input output : Option (List ℕ)) → IsServed P.File.Store P.keeps P.gives
+        (policy_value access.now.policy.now) (Action.OnFile access.now.path Task.CheckFile) result
+        input output output (P.closed outside.new) }
+{
+    let accounts = open(outside, access)?;
+    outside.close(accounts.into_store());
+    Ok(())
+}
+
 // Adds all names and texts of the input, each a line, to a file, or none.
 fn import<P: Outside, R: BufRead>(
     alloc: Global,
@@ -144,7 +160,7 @@ pub(super) fn open<P: Outside>(
         P.closed outside.old before → P.closed outside.new before) }
 {
     for _ in 0..u64::MAX {
-        match outside.open(access.path, access.makes) {
+        match outside.open(access.path, access.makes, access.checks) {
             Err(Failure::Unopened(OpenError::Busy)) => {}
             done => return done,
         }

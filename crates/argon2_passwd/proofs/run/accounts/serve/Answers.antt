@@ -1,3 +1,4 @@
+use Rattle.argon2_passwd.proofs.Common.{None}
 use Rattle.argon2_passwd.proofs.run.accounts.serve.Goals as goal
 
 pub returns-in-Edit : goal.returns-in-Edit
@@ -8,3 +9,6 @@ returns-in-Import g c = rw (c.in-OnFile.is, c.in-Import.is) (c.import.ensures _)
 
 pub returns-in-ImportOthers : goal.returns-in-ImportOthers
 returns-in-ImportOthers g c = rw (c.in-OnFile.is, c.in-ImportOthers.is) (c.import_others.ensures _)
+
+pub returns-in-CheckFile : goal.returns-in-CheckFile
+returns-in-CheckFile g c = rw (c.in-OnFile.is, c.in-CheckFile.is) (c.check_file.ensures None _)
