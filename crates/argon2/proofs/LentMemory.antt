@@ -62,7 +62,8 @@ is_begun argon2 count width all wide old blocks room valid short password salt n
     record {
       valid = valid;
       associated = short;
-      begins = subst (Begins ctx (first_block ctx password salt n)) (sym (blocks_of-front ctx count all old blocks begins.size)) begins;
+      begins = subst (Begins ctx (first_block ctx password salt n))
+          (sym (blocks_of-front ctx count all old blocks begins.size)) begins;
       others = KeepsOtherColumns-front ctx count all old blocks begins.size same;
       rest = KeepsRest-behind ctx count all old blocks begins.size;
     }

@@ -59,8 +59,8 @@ KeepsOtherColumns ctx old new =
     slice_index_or new (lane * lane_length ctx + column) []
     ≡ slice_index_or old (lane * lane_length ctx + column) []
 
--- The costs are accepted; the first blocks hold the matrix for a tag of n bytes; the list, if it has a place for each block, holds
--- the references; the blocks behind are unchanged.
+-- The costs are accepted; the first blocks hold the matrix for a tag of n bytes; the list, if it has a place for each block,
+-- holds the references; the blocks behind are unchanged.
 pub record FillsFront (ctx : Context) (password salt : List ℕ) (n : ℕ) (old new : Memory) (places places' : List ℕ) : Type 0
   where
     pub sizes : Sizes ctx

@@ -1,5 +1,6 @@
--- Argon2 in the order of RFC 9106, section 3. The hash H is BLAKE2b (Blake2b.antt), H' of section 3.3 is in LongHash.antt, and G and P
--- of sections 3.5 and 3.6 are in Block.antt. What the standard leaves open, such as the place of a block in memory, is in Layout.antt.
+-- Argon2 in the order of RFC 9106, section 3. The hash H is BLAKE2b (Blake2b.antt), H' of section 3.3 is in LongHash.antt, and
+-- G and P of sections 3.5 and 3.6 are in Block.antt. What the standard leaves open, such as the place of a block in memory, is in
+-- Layout.antt.
 use Rattle.std.specs.Prelude.{ℕ, ◌*◌, ◌/◌, ◌≡◌, ◌^◌, ◌<◌, ◌≤◌, ◌⊎◌, List, length, ◌++◌, zero, suc, ◌+◌, ◌-◌, ◌%◌, ◌&&◌, [], map, take, ◌==◌, slice_index_or, if◌then◌else◌, Bool, ◌||◌, ◌∷◌, replicate, nat_lt, slice_index}
 use Rattle.std.specs.Int.{w32, to_le_bytes}
 use Rattle.std.specs.List.{range_with_len, fold}
@@ -212,7 +213,8 @@ rule ctx first blocks pass lane column =
     then first lane column
     else made_block ctx blocks pass lane column
 
--- A block of a history: columns in the order of time, each the list of its lanes' blocks. Column c of pass r is the one at r q + c.
+-- A block of a history: columns in the order of time, each the list of its lanes' blocks. Column c of pass r is the one at
+-- r q + c.
 unfoldable pub in_history : Context → List (List (List ℕ)) → ℕ → ℕ → ℕ → List ℕ
 in_history ctx history pass lane column =
     slice_index_or (slice_index_or history (pass * lane_length ctx + column) []) lane []

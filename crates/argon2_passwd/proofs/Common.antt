@@ -40,14 +40,17 @@ behind_as None rest same drops found = tt
 behind_as (Some bytes) rest same drops found = found_as (Some (drop_through 10 bytes)) same (rw drops at found)
 
 -- a fact of two passwords, the first lines, by which nothing is written
-pub of_two : {P : List ℕ → List ℕ → Type 0} (output input rest : Option (List ℕ)) {first second p q : List ℕ} → first ≡ p → second ≡ q
-    → DropsThrough input rest 10 → IfSome input (λ bytes. password_of bytes ≡ Some p) → IfSome rest (λ bytes. password_of bytes ≡ Some q)
+pub of_two : {P : List ℕ → List ℕ → Type 0} (output input rest : Option (List ℕ)) {first second p q : List ℕ} → first ≡ p
+    → second ≡ q
+    → DropsThrough input rest 10 → IfSome input (λ bytes. password_of bytes ≡ Some p)
+    → IfSome rest (λ bytes. password_of bytes ≡ Some q)
     → P first second → Keeps output output × OfPassword (λ a. OfPassword (P a) (behind input)) input
 of_two output input rest same other drops found next it =
     (keeps_same output, (_, found_as input same found, (_, behind_as input rest other drops next, it)))
 
 -- what the lines of the bytes that are read say
-pub said_of : (input : Option (List ℕ)) (any_text : Bool) (read : List ℕ) (said : List Line) → IfSome input (λ known. read ≡ known)
+pub said_of : (input : Option (List ℕ)) (any_text : Bool) (read : List ℕ) (said : List Line)
+    → IfSome input (λ known. read ≡ known)
     → AreSaid any_text read said → IfSome input (λ bytes. AreSaid any_text bytes said)
 said_of input any_text read said same are =
     IfSome_then input same (λ known all. subst (λ bytes. AreSaid any_text bytes said) all are)

@@ -21,19 +21,23 @@ module _ {S : Type 0} {g : Ghosts S} where
     cause = λ clean.
         let mid : IsHonest g (database_of b) = omega (arith, clean, then.quiet.clean) in
         let yet = first.is_open refl mid in
-        IfSome_then error (then.cause clean) (λ e why. caused {fault = HasFailedBy b c} {failed = HasFailedBy a c} e (λ shut. absurd (let is : IsClosed b = shut in cc))
+        IfSome_then error (then.cause clean)
+        (λ e why. caused {fault = HasFailedBy b c} {failed = HasFailedBy a c} e
+        (λ shut. absurd (let is : IsClosed b = shut in cc))
         (λ f failed. (omega (arith, failed.0, first.quiet.counts), failed.1)) why);
   }
 
   pub looks_then : (error : Option FileError) (a b c : AccountFile S g) → Looks None a b → Looks error b c → Looks error a c
   looks_then error a b c (inl (none, same)) then = subst (λ x. Looks error x c) same then
   looks_then error a b c (inr first) (inl (none, same)) =
-      inr (λ names has. subst (λ x. Stays error names a x) (sym same) (subst (λ e. Stays e names a b) (sym none) (first names has)))
+      inr (λ names has. subst (λ x. Stays error names a x) (sym same)
+      (subst (λ e. Stays e names a b) (sym none) (first names has)))
   looks_then error a b c (inr first) (inr then) =
       inr (λ names has. let read = first names has in stays_then read (then names read.has))
 
   -- the names after look-ups
-  pub names_stay : (error : Option FileError) (a b : AccountFile S g) → Looks error a b → (names : Texts) → HasNames a names → HasNames b names
+  pub names_stay : (error : Option FileError) (a b : AccountFile S g) → Looks error a b → (names : Texts) → HasNames a names
+      → HasNames b names
   names_stay error a b (inl (none, same)) names has = subst (λ x. HasNames x names) (sym same) has
   names_stay error a b (inr looks) names has = (looks names has).has
 

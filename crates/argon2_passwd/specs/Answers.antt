@@ -126,7 +126,8 @@ module _ {S : Type 0} {g : Ghosts S} where
   abbrev pub AddsOthers : Outcome → List Line → AccountFile S g → AccountFile S g → Type 0
   AddsOthers (Ok _) ls before after = AddsEntries (Ok tt) ls [] before after
   AddsOthers (Err failure) ls before after = PassesOver failure ls before after ⊎ ((status_of failure ≡ 3)
-      × (FailsToLook failure before after ⊎ ((e : FileError) × (passed : List (ℕ × Flaw)) × AddsEntries (Err e) ls passed before after
+      × (FailsToLook failure before after
+      ⊎ ((e : FileError) × (passed : List (ℕ × Flaw)) × AddsEntries (Err e) ls passed before after
       × (failure ≡ file_failure (if is_refusal e then Damaged else e)))))
 
   -- a file at a path that was opened, with its names
@@ -138,7 +139,8 @@ abbrev pub answer_without_text : Accepted → Accepted
 answer_without_text Rehashed = Kept
 answer_without_text did = did
 
--- What an accepted login answers whose fresh text was to be written so. It is refused if the name was removed or locked meanwhile.
+-- What an accepted login answers whose fresh text was to be written so. It is refused if the name was removed or locked
+-- meanwhile.
 abbrev pub login_by : Accepted → Outcome → Result Accepted Failure
 login_by did (Ok _) = Ok did
 login_by did (Err failure) = if is_denial failure then Err failure else Ok (answer_without_text did)
@@ -205,7 +207,8 @@ module _ {S : Type 0} (g : Ghosts S) (Has : List ℕ → Texts → Type 0) where
   -- all that was done there is one call, and this result tells of its answer
   abbrev pub IsApplied : List ℕ → NamedEdit → (List S → Type 0) → Outcome → Type 0
   IsApplied path change Closed result =
-      (done : Result (Unit {0}) FileError) × (result ≡ outcome_by file_failure done) × IsDone path (Serves (change ∷ []) done) Closed
+      (done : Result (Unit {0}) FileError) × (result ≡ outcome_by file_failure done)
+      × IsDone path (Serves (change ∷ []) done) Closed
 
   -- the text of a name was read in the file at a path, which was closed with this store
   abbrev pub IsLooked : List ℕ → List ℕ → Result (Option (List ℕ)) FileError → (S → Type 0) → Type 0
@@ -288,7 +291,8 @@ module _ {S : Type 0} (g : Ghosts S) (Has : List ℕ → Texts → Type 0) (Give
       (Closed [] × IsErrAnd result (λ failure. status_of failure ≡ 3) × Keeps old new)
       ⊎ ((secret prior : Option (List ℕ)) × IsSecret Holds options.secret_file secret
       × IsSecret Holds options.old_secret_file prior
-      × ((Closed [] × ¬ (IsPolicy (policy_by options secret prior)) × IsErrAnd result (λ failure. failure ≡ Params) × Keeps old new)
+      × ((Closed [] × ¬ (IsPolicy (policy_by options secret prior)) × IsErrAnd result (λ failure. failure ≡ Params)
+      × Keeps old new)
       ⊎ IsServed (policy_by options secret prior) what result input old new Closed))
 
 -- What standard error gets: a front of the news of the file. A refusal that does not tell whether the name is there adds a

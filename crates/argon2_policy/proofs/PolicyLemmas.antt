@@ -130,7 +130,8 @@ fault_first : (r : Result Stored Fault) (is_right : Stored → Bool) (fault : Fa
 fault_first r is_right fault is = grind arith
 
 module _ (policy : Policy) (password : List ℕ) (v : Phc) where
-  not_by_old : (o : Option (List ℕ)) (e : Error) → ((secret : List ℕ) → o ≡ Some secret → IsVerifyAnswer secret password v (Err e))
+  not_by_old : (o : Option (List ℕ)) (e : Error)
+      → ((secret : List ℕ) → o ≡ Some secret → IsVerifyAnswer secret password v (Err e))
       → (e ≡ OutOfMemory) ⊎ ¬ (IsSomeAnd o (λ secret. AcceptsBy secret password v))
   not_by_old None e answer = inr (λ absent. absent)
   not_by_old (Some secret) e answer = exact secret password v (Err e) (answer secret refl)
@@ -147,7 +148,8 @@ module _ (policy : Policy) (password : List ℕ) (v : Phc) where
 
   not_by_either : (e : Error) → SecretsRefusal policy password v e
       → (e ≡ OutOfMemory) ⊎ ¬ (IsSomeAnd policy.old_secret (λ secret. AcceptsBy secret password v))
-  not_by_either e why = not_by_old policy.old_secret e (λ secret is. grind (arith, under_any policy.target.secret secret password v e))
+  not_by_either e why = not_by_old policy.old_secret e
+      (λ secret is. grind (arith, under_any policy.target.secret secret password v e))
 
   -- a refusal other than of memory says that the value does not accept the password within the bound
   pub denied : (why : Denial) → IsDenial policy password v why → (why ≡ Refused OutOfMemory) ⊎ ¬ (Admits policy password v)

@@ -18,8 +18,15 @@ Fits view e = breaks_line view e.0 ≡ false
 line_then : (view : View) (e : List ℕ × List ℕ) (es : List (List ℕ × List ℕ)) (old mid new : Option (List ℕ)) (how : Written)
     → IsLineOf view e old mid written.All → AreLinesOf view es mid new how → AreLinesOf view (e ∷ es) old new how
 line_then view e es old mid new written.All first later = search (arith, Appends-trans, All-cons)
-line_then view e es old mid new Breaks (first, fits) (before, after, at, is, fit, breaks, later) =
-    (e ∷ before, after, at, ap (λ l. e ∷ l) is, All-cons (Fits view) e before fits fit, breaks, Appends-trans old mid new _ _ first later)
+line_then view e es old mid new Breaks (first, fits) (before, after, at, is, fit, breaks, later) = (
+  e ∷ before,
+  after,
+  at,
+  ap (λ l. e ∷ l) is,
+  All-cons (Fits view) e before fits fit,
+  breaks,
+  Appends-trans old mid new _ _ first later,
+)
 line_then view e es old mid new (Failed why) (first, fits) (before, after, is, fit, later) =
     (e ∷ before, after, ap (λ l. e ∷ l) is, All-cons (Fits view) e before fits fit, text_and_front _ _ old mid new first later)
 
@@ -44,7 +51,8 @@ begin_lines view first now names out shape is rows texts =
 
 module _ (view : View) (now : Shown) (names : Texts) (old mid out : Option (List ℕ)) where
   -- the next row is that of a name
-  pub next_row : (next : Shown) (row : Row) → IsWriting view now names old mid → Advances now next 0 row true → (wrote : Option Written)
+  pub next_row : (next : Shown) (row : Row) → IsWriting view now names old mid → Advances now next 0 row true
+      → (wrote : Option Written)
       → ((e : List ℕ × List ℕ) → IsUtf8 e.0 → row ≡ row_of e → IsSomeAnd wrote (IsLineOf view e mid out))
       → GoesOn view next names old out wrote
   next_row next row ([], at, named, rest) moves wrote its = absurd cc
@@ -57,7 +65,13 @@ module _ (view : View) (now : Shown) (names : Texts) (old mid out : Option (List
       rest out Breaks ([], left, e, refl, All-nil (Fits view), line.1, Appends-kept mid mid out [] (Appends-nil mid) line.0)
   next_row next row (e ∷ left, at, named, rest) moves (Some (Failed why)) its =
       let line = its e named.0 cc in
-      rest out (Failed why) (e ∷ [], left, refl, All-cons (Fits view) e [] line.1 (All-nil (Fits view)), front_of_longer _ [] mid out line.0)
+      rest out (Failed why) (
+        e ∷ [],
+        left,
+        refl,
+        All-cons (Fits view) e [] line.1 (All-nil (Fits view)),
+        front_of_longer _ [] mid out line.0,
+      )
 
   -- the last row was written, and the output is flushed
   pub all_written : IsWriting view now names old mid → now.cursors 0 ≡ Some [] → Keeps mid out

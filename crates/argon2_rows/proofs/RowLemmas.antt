@@ -89,7 +89,13 @@ pub remove_entry-rows_of : (names : Texts) (name u : List ℕ) → get names nam
     → remove_entry plain (row_of (name, u)) (rows_of names) ≡ rows_of (remove names name)
 remove_entry-rows_of names name u has =
     let back = changed-remove names name (Some u) ∙ changed_back names names name (Some u) (λ q far. refl) has in
-    grind (arith, entries-insert nat_list_cmp_total (remove names name) name u, taken name u, get-entries, get-changed names name None)
+    grind (
+      arith,
+      entries-insert nat_list_cmp_total (remove names name) name u,
+      taken name u,
+      get-entries,
+      get-changed names name None,
+    )
 
 -- ---- long rows
 
@@ -188,8 +194,12 @@ lowest e (f ∷ fs) row rows at is index more =
 -- rows of accounts that do so in a tree are those of names
 its_names : (last : Row) (rows : List Row) → IsIndex plain rows → Follow last rows
     → (names : Texts) × AreTexts names × AreLines names × (rows_of names ≡ rows)
-its_names last [] index all =
-    (from_sorted [], grind (arith, get-from_sorted), grind (arith, get-from_sorted), ap (map row_of) (entries-from_sorted order [] tt))
+its_names last [] index all = (
+  from_sorted [],
+  grind (arith, get-from_sorted),
+  grind (arith, get-from_sorted),
+  ap (map row_of) (entries-from_sorted order [] tt),
+)
 its_names last (row ∷ rows) index ((e, named, good, line, at), new, more) =
     let (names, texts, lines, is) = its_names row rows index.1 more in (
       insert names e.0 e.1,

@@ -116,7 +116,8 @@ module _ {S : Type 0} {g : Ghosts S} where
         → Finishes g mid new done result → Changes g old new before after long result
     changes_of {mid} {new} {before} {after} {long} done result (texts, kept) fine wrote ends =
         let to_old : IsHonest g new → IsHonest g old = λ now. omega (arith, now, ends.clean, wrote.quiet.clean) in
-        let begun : IsHonest g new → HasBegun g mid before = λ now. wrote.begun before (omega (arith, now, ends.clean)) (search arith) in
+        let begun : IsHonest g new → HasBegun g mid before =
+        λ now. wrote.begun before (omega (arith, now, ends.clean)) (search arith) in
         let sees : IsHonest g new → OnOk done (Sees (g.view mid) after) = λ now. search arith in
         let is = ends.kept before after (λ now. (begun now, sees now)) in
         record {

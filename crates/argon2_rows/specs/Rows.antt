@@ -91,7 +91,8 @@ IsLineOf view e old new (Failed why) = AppendsFront old new (line view e) × (br
 abbrev pub AreLinesOf : View → List (List ℕ × List ℕ) → Option (List ℕ) → Option (List ℕ) → Written → Type 0
 AreLinesOf view es old new written.All = Appends old new (flat_map (line view) es) × FitLines view es
 AreLinesOf view es old new Breaks = (before after : List (List ℕ × List ℕ)) × (e : List ℕ × List ℕ)
-    × (es ≡ before ++ e ∷ after) × FitLines view before × (breaks_line view e.0 ≡ true) × Appends old new (flat_map (line view) before)
+    × (es ≡ before ++ e ∷ after) × FitLines view before × (breaks_line view e.0 ≡ true)
+    × Appends old new (flat_map (line view) before)
 AreLinesOf view es old new (Failed why) = (before after : List (List ℕ × List ℕ))
     × (es ≡ before ++ after) × FitLines view before × AppendsFront old new (flat_map (line view) before)
 

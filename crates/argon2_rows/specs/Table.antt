@@ -156,5 +156,6 @@ module _ {S : Type 0} (g : Ghosts S) where
 
   -- The same, or the index of the first name that is there, which changes nothing.
   abbrev pub WritesAll : S → S → Texts → List (List ℕ × List ℕ) → Result (Unit {0}) AddError → Type 0
-  WritesAll old new before es (Err (Taken k)) = HasRows new before × (IsHonest new → IsFirstTaken before es k) × StaysQuiet old new
+  WritesAll old new before es (Err (Taken k)) =
+      HasRows new before × (IsHonest new → IsFirstTaken before es k) × StaysQuiet old new
   WritesAll old new before es result = AddsNames old new before es (written_of result)

@@ -114,14 +114,16 @@ module _ {S : Type 0} {g : Ghosts S} {old mid : AccountFile S g} {before : Texts
       → (IsTrusted new → IfErr r (HasCause (IsClosed old) (HasFailedBy old new) (Any (IsTooLong before) edits)))
       → Makes edits r old new before after
   ends {new = new} change r after has answers refused crash cause =
-      let closed : IsTrusted old → IsClosed old → (r ≡ Err Closed) × (database_of new ≡ database_of old) = grind (arith, reads.closed) in
+      let closed : IsTrusted old → IsClosed old → (r ≡ Err Closed) × (database_of new ≡ database_of old) =
+      grind (arith, reads.closed) in
       let closes : IsTrusted new → IsOpen g (database_of new) ⊎ HasFailed g (database_of old) (database_of new) =
       grind (arith, change.closes, reads.quiet.counts) in
       search (arith, change.honest)
 
   -- edits are made, or the names stay as they were
   pub writes_all : {edits : List NamedEdit} {long : Type 0} {new : AccountFile S g} {to : Texts}
-      → (IsTrusted new → long → Any (IsTooLong before) edits) → (IsTrusted new → (to ≡ before) ⊎ (names_after edits before ≡ Ok to))
+      → (IsTrusted new → long → Any (IsTooLong before) edits)
+      → (IsTrusted new → (to ≡ before) ⊎ (names_after edits before ≡ Ok to))
       → (done : Result (Unit {0}) StoreError) → OnOk done (IsTrusted new → names_after edits before ≡ Ok to)
       → Changes g (database_of mid) (database_of new) before to long done
       → (r : Result (Unit {0}) FileError) → r ≡ read_of done → (after : Texts) × Makes edits r old new before after
@@ -137,7 +139,8 @@ module _ {S : Type 0} {g : Ghosts S} {old mid : AccountFile S g} {before : Texts
             (λ clean db found. let (names, held, is) = change.crash clean db found in
             let ended = then clean in (names, held, grind arith)) (λ clean. let was = change.honest clean in
             due {X = Unit {0}} (IsClosed old) (IsTold g (database_of new)) (g.view (database_of mid)) (Err f)
-            (reads.has.1.sound was (reads.is_open refl was)) (λ failed. omega (arith, failed, reads.quiet.counts)) (too clean) (change.cause clean))),
+            (reads.has.1.sound was (reads.is_open refl was)) (λ failed. omega (arith, failed, reads.quiet.counts)) (too clean)
+            (change.cause clean))),
       )
 
   -- names are added, or none

@@ -21,12 +21,14 @@ takes size log numbers (inl (ignored, none), each) = (inl (ignored, none), λ i 
 takes size log numbers (inr (taken, last), each) = (inr (taken, last), λ i low. (each i low, taken.valid i low))
 
 -- 64 bytes at the beginning of a page
-front : (file head first : List ℕ) (at : ℕ) → Holds file at head → length head ≡ 64 → part file at 4096 ≡ first → length first ≡ 4096
+front : (file head first : List ℕ) (at : ℕ) → Holds file at head → length head ≡ 64 → part file at 4096 ≡ first → length first
+    ≡ 4096
     → take 64 first ≡ head
 unfolding part
 front file head first at held len is whole =
     let within = part_within file at 4096 (omega arith) (ap length is ∙ whole) in
-    ap (take 64) (sym is) ∙ part-part file at 4096 0 64 within (omega arith) ∙ held_is_part file head (at + 0) 64 (subst (λ n. Holds file n head) (omega arith) held) len
+    ap (take 64) (sym is) ∙ part-part file at 4096 0 64 within (omega arith)
+    ∙ held_is_part file head (at + 0) 64 (subst (λ n. Holds file n head) (omega arith) held) len
 
 -- the header that was read is that of the pages
 abbrev pub IsHead : PageMap → List ℕ → Type 0
@@ -38,21 +40,25 @@ there (Some x) some = refl
 
 same_version : (first head : List ℕ) → take 64 first ≡ head → user_version (take 100 first) ≡ user_version head
 same_version first head same_front =
-    let same = λ (i : ℕ) (low : i < 64). get_or-take 100 first i 0 (omega (arith, low)) ∙ sym (get_or-take 64 first i 0 low) ∙ ap (λ (l : List ℕ). slice_index l i) same_front in
+    let same = λ (i : ℕ) (low : i < 64). get_or-take 100 first i 0 (omega (arith, low)) ∙ sym (get_or-take 64 first i 0 low)
+    ∙ ap (λ (l : List ℕ). slice_index l i) same_front in
     let a = same 60 (omega arith) in
     let b = same 61 (omega arith) in
     let c = same 62 (omega arith) in
     let d = same 63 (omega arith) in
     cc
 
-head_of_page : (stored pages : PageMap) (first head : List ℕ) → trimmed 4096 stored ≡ pages → stored 1 ≡ Some first → length first ≡ 4096
+head_of_page : (stored pages : PageMap) (first head : List ℕ) → trimmed 4096 stored ≡ pages → stored 1 ≡ Some first
+    → length first ≡ 4096
     → take 64 first ≡ head → IsHead pages head
 unfolding trimmed
 head_of_page stored pages first head shows is whole begins =
     let page : pages 1 ≡ Some first =
-    ap (λ (p : PageMap). p 1) (sym shows) ∙ ap (option_map (take 4096)) is ∙ ap Some (ap (λ n. take n first) (sym whole) ∙ take-length first) in
+    ap (λ (p : PageMap). p 1) (sym shows) ∙ ap (option_map (take 4096)) is
+    ∙ ap Some (ap (λ n. take n first) (sym whole) ∙ take-length first) in
     let bytes = ap (λ (o : Option (List ℕ)). unwrap_or o []) page in (
-      ap (λ l. take 16 (take 100 l)) bytes ∙ take-take 16 100 first (omega arith) ∙ sym (take-take 16 64 first (omega arith)) ∙ ap (take 16) begins,
+      ap (λ l. take 16 (take 100 l)) bytes ∙ take-take 16 100 first (omega arith) ∙ sym (take-take 16 64 first (omega arith))
+          ∙ ap (take 16) begins,
       ap (λ l. user_version (take 100 l)) bytes ∙ same_version first head begins,
     )
 
@@ -67,24 +73,30 @@ module _ (image : Image) (numbers : List ℕ) (frames : AreFramesOf 4096 image.l
   whole : length first ≡ 4096
   whole = recs.whole.sized 1 first is_first
 
-  pub in_log : (i : ℕ) (head : List ℕ) → IsLatest numbers 1 i → Holds image.log (56 + i * 4120) head → length head ≡ 64 → IsHead pages head
+  pub in_log : (i : ℕ) (head : List ℕ) → IsLatest numbers 1 i → Holds image.log (56 + i * 4120) head → length head ≡ 64
+      → IsHead pages head
   unfolding frames_len
   in_log i head last held len =
-      let page = first_in_log 4096 image numbers (takes 4096 image.log numbers frames) recs.stored first recs.found is_first i last in
+      let page = first_in_log 4096 image numbers
+      (takes 4096 image.log numbers frames) recs.stored first recs.found is_first i last in
       let at : frame_at 4096 i + 24 ≡ 56 + i * 4120 = omega arith in
       head_of_page recs.stored pages first head recs.shows is_first whole
       (front image.log head first (56 + i * 4120) held len (ap (λ n. part image.log n 4096) (sym at) ∙ page) whole)
 
   page_in_file : ((i : ℕ) → i < length numbers → slice_index numbers i ≢ 1) → part image.db 0 4096 ≡ first
-  page_in_file none = first_in_file 4096 image numbers (takes 4096 image.log numbers frames) recs.stored first recs.found is_first none
+  page_in_file none = first_in_file 4096 image numbers
+      (takes 4096 image.log numbers frames) recs.stored first recs.found is_first none
 
-  pub in_file : ((i : ℕ) → i < length numbers → slice_index numbers i ≢ 1) → (head : List ℕ) → Holds image.db 0 head → length head ≡ 64
+  pub in_file : ((i : ℕ) → i < length numbers → slice_index numbers i ≢ 1) → (head : List ℕ) → Holds image.db 0 head
+      → length head ≡ 64
       → IsHead pages head
   in_file none head held len =
-      head_of_page recs.stored pages first head recs.shows is_first whole (front image.db head first 0 held len (page_in_file none) whole)
+      head_of_page recs.stored pages first head recs.shows is_first whole
+      (front image.db head first 0 held len (page_in_file none) whole)
 
   pub is_long : ((i : ℕ) → i < length numbers → slice_index numbers i ≢ 1) → 4096 ≤ length image.db
-  is_long none = let within = part_within image.db 0 4096 (omega arith) (ap length (page_in_file none) ∙ whole) in omega (arith, within)
+  is_long none = let within = part_within image.db 0 4096 (omega arith) (ap length (page_in_file none) ∙ whole)
+      in omega (arith, within)
 
 -- what the number in the header that was read says of the pages
 pub known : (pages : PageMap) (head : List ℕ) (format : ℕ) → IsHead pages head
@@ -97,7 +109,8 @@ known pages head format is named found = (
 )
 
 -- a log of files that recover is refused only if it is too long, or for the disk or memory
-pub refused : (old new : ℕ) (log : List ℕ) (k : ℕ) → Replays 4096 log k → (e : LogError) → HasCause old new (RefusesLog 4096 log) e
+pub refused : (old new : ℕ) (log : List ℕ) (k : ℕ) → Replays 4096 log k → (e : LogError)
+    → HasCause old new (RefusesLog 4096 log) e
     → (n : ℕ) → IsOfFormat n (log_error e)
 refused old new log k replays (Io e) cause n = tt
 refused old new log k replays OutOfMemory cause n = tt

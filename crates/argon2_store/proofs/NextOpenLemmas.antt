@@ -227,10 +227,13 @@ near_found img rows (inl (pages, recs, file, is, one)) = ∥∥₁_elim file (Ne
 near_found img rows (inr (none, is)) = ∥∥₁_elim none (Near-prop rows img) (λ unbegun. near_rows img rows (inr (unbegun, is)))
 
 -- files that hold names soundly: an open finds the rows of these
-sound_rows : (img : Image) (names : Texts) → HoldSoundly img names → (rows : List Row) → FoundIn 4096 img rows → rows ≡ rows_of names
+sound_rows : (img : Image) (names : Texts) → HoldSoundly img names → (rows : List Row) → FoundIn 4096 img rows → rows
+    ≡ rows_of names
 sound_rows img names (texts, lines, inl (pages, recs, file, is)) rows found =
-    (near_rows img (rows_of names) (inl (4096, account ∷ [], pages, (omega arith, omega arith, refl, refl), recs, file, refl, is))).0 rows found
-sound_rows img names (texts, lines, inr (unbegun, is)) rows found = (near_rows img (rows_of names) (inr (unbegun, is))).0 rows found
+    (near_rows img (rows_of names) (inl
+    (4096, account ∷ [], pages, (omega arith, omega arith, refl, refl), recs, file, refl, is))).0 rows found
+sound_rows img names (texts, lines, inr (unbegun, is)) rows found =
+    (near_rows img (rows_of names) (inr (unbegun, is))).0 rows found
 
 pub sound_of : (img : Image) (names : Texts) → HoldSoundly img names → AreSound img
 sound_of img names (texts, lines, inl (pages, recs, file, is)) = inl (pages, recs, file)
@@ -265,7 +268,8 @@ pub has_held : {D : Type 0} {g : Ghosts D} (it : FileStore D g) (img : Image)
     → (IsClean (view it) → IsUnwritten (view it) × FoundIn 4096 img ((view it).committed 0))
     → (names : Texts) × HasRows over_file it names × AreLines names × (IsClean (view it) → HoldsNames img names)
 has_held it img held opened =
-    let (names, texts, lines, rows) = names_held (view it).is_clean img ((view it).committed 0) held (λ clean. (opened clean).1) in (
+    let (names, texts, lines, rows) =
+    names_held (view it).is_clean img ((view it).committed 0) held (λ clean. (opened clean).1) in (
       names,
       (texts, kept_of it names (λ clean. (opened clean).0) rows),
       lines,
@@ -278,7 +282,8 @@ pub leaves_names : {D : Type 0} (g : Ghosts D) (old new : D × D) → LeavesName
 leaves_names g old new synced unharmed clean left may opens before after =
     let found = seen_image g old.0 old.1 in
     let stands = stands_for (outcomes g old.0 old.1) (λ img. img ≡ found) found left (λ img was.
-    ap₂ (λ (a b : List ℕ). record { log = a; db = b }) (synced.0 img.log was.0) (synced.1 img.db was.1)) (unharmed clean left may) in (
+    ap₂ (λ (a b : List ℕ). record { log = a; db = b }) (synced.0 img.log was.0) (synced.1 img.db was.1))
+    (unharmed clean left may) in (
       (after, stands),
       λ names other held holds. rows_of-once other names
           ((near_opens _ (found ∷ opens) before left (after, stands) (near_found before _ held.1)).0 _ holds.1),

@@ -34,7 +34,11 @@ kept_of it names unwritten rows = record {
   shapes = λ clean _. (unwritten clean).shapes;
   sound = λ clean _. (unwritten clean).unbroken;
   seen = λ clean _. (ap (λ (t : Trees). t 0) (unwritten clean).settled ∙ rows clean, (unwritten clean).listed);
-  committed = λ clean _. (rows clean, ap (λ (t : Trees). t catalog_tree) (sym (unwritten clean).settled) ∙ (unwritten clean).listed);
+  committed = λ clean _. (
+    rows clean,
+    ap (λ (t : Trees). t catalog_tree) (sym (unwritten clean).settled)
+        ∙ (unwritten clean).listed,
+  );
 }
 
 -- ---- an open that fails
@@ -54,13 +58,15 @@ pub seen_same : {D : Type 0} {g : Ghosts D} {old mid : D × D} → OnlyReadsBoth
     → seen_image g mid.0 mid.1 ≡ seen_image g old.0 old.1
 seen_same reads = search arith
 
-pub clean_before : {D : Type 0} {g : Ghosts D} {old mid : D × D} → OnlyReadsBoth g old mid → AreClean g mid.0 mid.1 → AreClean g old.0 old.1
+pub clean_before : {D : Type 0} {g : Ghosts D} {old mid : D × D} → OnlyReadsBoth g old mid → AreClean g mid.0 mid.1
+    → AreClean g old.0 old.1
 clean_before {g = g} reads clean = let both = halves g _ _ clean in grind (arith, reads.0.clean both.0, reads.1.clean both.1)
 
 pub unharmed_then : {D : Type 0} {g : Ghosts D} {old mid : D × D} (new : D × D) → OnlyReadsBoth g old mid → AreUnharmed g mid new
     → AreUnharmed g old new
 unharmed_then {g = g} {old} {mid} new reads unharmed clean left may =
-    subst (λ i. StandsFor (outcomes g old.0 old.1) i left) (seen_same reads) (stands_for (outcomes g mid.0 mid.1) (outcomes g old.0 old.1) _ left
+    subst (λ i. StandsFor (outcomes g old.0 old.1) i left) (seen_same reads)
+    (stands_for (outcomes g mid.0 mid.1) (outcomes g old.0 old.1) _ left
     (λ l out. (reads.0.crash l.log out.0, reads.1.crash l.db out.1)) (unharmed clean left may))
 
 module _ {D : Type 0} {g : Ghosts D} (old : Unopened D g) (sized : (state_of old).page_size ≡ 4096) (left : Image) where
@@ -178,7 +184,8 @@ left_table it listed left may = ∥∥₁_elim it.safe squash₁ (λ all.
 -- The rows were read, or not all of them: whatever a crash leaves has those that the open found.
 pub unharmed_by_reads : {D : Type 0} {g : Ghosts D} (old : D × D) (it end : FileStore D g) (new : D × D) → SeenMayStay g
     → IsQuietCall it end
-    → (IsClean (view it) → IsUnwritten (view it) × AreClean g old.0 old.1 × FoundIn 4096 (seen_image g old.0 old.1) ((view it).committed 0))
+    → (IsClean (view it) → IsUnwritten (view it) × AreClean g old.0 old.1
+    × FoundIn 4096 (seen_image g old.0 old.1) ((view it).committed 0))
     → new ≡ files end → AreUnharmed g old new
 unharmed_by_reads old it end new stay quiet opened closed clean left may =
     let may_so = may_leave end.pool new (sym closed) clean left may in

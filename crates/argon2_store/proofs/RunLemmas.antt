@@ -28,12 +28,14 @@ pub texts_of_events : (events : List FileEvent) (names : Texts) → AreMade empt
 texts_of_events [] names is name = rw (is, get-empty)
 texts_of_events ((edits, Ok x) ∷ older) names (before, earlier, step) name =
     grind (arith, texts_after edits before names step name, texts_of_events older before earlier name)
-texts_of_events ((edits, Err e) ∷ older) names (before, earlier, step) name = grind (arith, texts_of_events older before earlier name)
+texts_of_events ((edits, Err e) ∷ older) names (before, earlier, step) name =
+    grind (arith, texts_of_events older before earlier name)
 
 -- ---- calls
 
 -- what a call made of the names
-its_events : (before after : Texts) (edits : List NamedEdit) (result : Result (Unit {0}) FileError) → Answers before edits result after
+its_events : (before after : Texts) (edits : List NamedEdit) (result : Result (Unit {0}) FileError)
+    → Answers before edits result after
     → AreMade before (events_of (makes edits result)) after
 its_events before after edits (Ok x) is = (before, refl, is)
 its_events before after edits (Err e) is =
@@ -123,7 +125,8 @@ module _ {S : Type 0} {g : Ghosts S} (settled : Settled g) (first : Texts) where
 
 pub ends_run : {D : Type 0} (g : disk.Ghosts D) → SeenMayStay g → (last : AccountFile (FileStore D g) over_file) → EndsRun last
 ends_run {D} g stay last names first calls before ready did clean may =
-    let leaves = (reached {S = FileStore D g} {g = over_file} (λ it. settled_at it stay) names first ready calls last did).left clean in
+    let leaves = (reached {S = FileStore D g} {g = over_file}
+    (λ it. settled_at it stay) names first ready calls last did).left clean in
     let listed = λ (db : Trees) (found : over_file.recovers (database_of last) db). (leaves db found).1.1 in (
       λ opens left after next holds.
           ∥∥₁_map (next_open {g = g} (database_of last) listed before may opens left after next holds) (λ found.

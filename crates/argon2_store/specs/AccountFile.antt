@@ -108,15 +108,16 @@ module _ {S : Type 0} {g : Ghosts S} where
 
   -- What a call does that is to make these edits, all or none. The clauses on the file hold while the disk has given no wrong
   -- answer that was taken as true.
-  pub record Makes (edits : List NamedEdit) (result : Result (Unit {0}) FileError) (old new : AccountFile S g) (before after : Texts)
+  pub record Makes (edits : List NamedEdit) (result : Result (Unit {0}) FileError) (old new : AccountFile S g)
+      (before after : Texts)
       : Type 0 where
     pub has : HasNames new after
     pub answers : IsHonest g (database_of new) → Answers before edits result after
     pub honest : IsHonest g (database_of new) → IsHonest g (database_of old)
     -- a refusal writes nothing: no fault is forgotten, and a crash has no new outcome
     pub refused : IfErr result (λ e. IsTrue (is_refusal e) → StaysQuiet g (database_of old) (database_of new))
-    -- A crash at any moment of the call, and after it, leaves the names after it. If it has an error of the file, those that it was
-    -- to leave may be there instead.
+    -- A crash at any moment of the call, and after it, leaves the names after it. If it has an error of the file, those that it
+    -- was to leave may be there instead.
     pub crash : IsHonest g (database_of new) → IsOpen g (database_of old) → CrashLeaves g (database_of new) (λ left.
         (left ≡ after) ⊎ (IsErrAnd result (λ e. is_refusal e ≡ false) × (names_after edits before ≡ Ok left)))
     -- a file that is closed stays so, and is as it was

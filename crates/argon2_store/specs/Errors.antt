@@ -116,7 +116,8 @@ abbrev pub open_error_text : OpenError → Option (List ℕ)
 open_error_text (Path why) = None
 open_error_text Busy = Some (codes "the file is in use")
 open_error_text HotJournal = Some (codes "the file has a journal to play back: open it with sqlite3 first")
-open_error_text LogWithoutFile = Some (codes "the file is missing or empty, but its -wal or -journal is there: bring it back, or move that away")
+open_error_text LogWithoutFile =
+    Some (codes "the file is missing or empty, but its -wal or -journal is there: bring it back, or move that away")
 open_error_text LogOfAnother = Some (codes "the -wal of the file belongs to another user")
 open_error_text no.OutOfMemory = Some (codes "out of memory")
 open_error_text no.Io = Some (codes "the disk failed")

@@ -76,7 +76,8 @@ pub record FileRun : Type 0 where
 
 -- these are the names as the calls of a run made them, with what came late
 abbrev pub AreLeft : FileRun → Texts → Type 0
-AreLeft run names = (late : List FileEvent) × IsLate run.calls late × AreMade run.found (late ++ flat_map events_of run.calls) names
+AreLeft run names = (late : List FileEvent) × IsLate run.calls late
+    × AreMade run.found (late ++ flat_map events_of run.calls) names
 
 -- An open finds what the run left: the names as its calls made them, and perhaps what came late. Before it, others may fail.
 abbrev pub IsFound : FileRun → Type 0

@@ -86,8 +86,9 @@ fn open_there<D: Disk>(
     }
 }
 
-// Opens two files, or makes the table in them if they have a database without tables, such as a first open that was cut off leaves.
-// One that lists more than one thing is refused. An error comes with the files. Files that are known to be sound are not checked.
+// Opens two files, or makes the table in them if they have a database without tables, such as a first open that was cut off
+// leaves. One that lists more than one thing is refused. An error comes with the files. Files that are known to be sound are not
+// checked.
 pub(crate) fn open_files<D: Disk + Drop>(
     alloc: Global,
     mut files: Files<D>,
@@ -244,8 +245,8 @@ fn check_alone(rt: &HostRuntime, path: &str) -> Result<(), OpenError> {
     Ok(())
 }
 
-// Writes a database with no table into a file, for its owner alone. It has one page, which is written whole before there is a log,
-// so that sqlite3 opens what a kill leaves. A failure to write it leaves the file empty.
+// Writes a database with no table into a file, for its owner alone. It has one page, which is written whole before there is a
+// log, so that sqlite3 opens what a kill leaves. A failure to write it leaves the file empty.
 fn begin(file: &mut File) -> io::Result<()> {
     file.set_permissions(Permissions::from_mode(0o600))?;
     let done = file.write_all(&first_page());
@@ -256,8 +257,8 @@ fn begin(file: &mut File) -> io::Result<()> {
     file.sync_all()
 }
 
-// Makes a database for its owner alone, also in a file whose making was cut off, unless something else has its name. The kit's open
-// would make a file that all may read. A file is never removed: another process may have it open.
+// Makes a database for its owner alone, also in a file whose making was cut off, unless something else has its name. The kit's
+// open would make a file that all may read. A file is never removed: another process may have it open.
 fn make(rt: &HostRuntime, path: &str) -> Result<(), OpenError> {
     if !is_beside(rt, path, "")? {
         check_alone(rt, path)?;

@@ -114,7 +114,8 @@ module _ (ctx : Context) (sizes : Sizes ctx) (first : FirstColumns) where
       (passes_fill schedules r (λ a slice x y. is a slice (omega arith) y) memory h))
 
   -- a memory that begins with the first two columns is filled up to there
-  pub filled_at_first : (memory : Memory) → Begins ctx first memory → HasBlocksUpTo ctx first 0 (λ _. columns_before ctx 0 0) memory
+  pub filled_at_first : (memory : Memory) → Begins ctx first memory
+      → HasBlocksUpTo ctx first 0 (λ _. columns_before ctx 0 0) memory
   filled_at_first memory start =
       let two = sizes.two_columns in
       let columns = first_columns ctx sizes first in
@@ -129,7 +130,8 @@ module _ (ctx : Context) (sizes : Sizes ctx) (first : FirstColumns) where
       let q = lane_length ctx in
       let two = sizes.two_columns in
       let p : r ≡ ctx.t_cost - 1 = omega arith in
-      fill_by_all (λ place. block_of ctx first (ctx.t_cost - 1) (place / q) (place % q)) memory (block_count ctx) [] h.size (λ n lt.
+      fill_by_all (λ place. block_of ctx first (ctx.t_cost - 1) (place / q) (place % q)) memory (block_count ctx) [] h.size
+      (λ n lt.
       let lane : n / q < ctx.p_cost = div_below n q ctx.p_cost (omega arith) lt in
       let column : n % q < q = mod-lt n (omega arith) in
       grind (arith, div-add-mod' n q, h.old r (n / q) (n % q), nat_tests))

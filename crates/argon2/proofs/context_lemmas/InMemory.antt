@@ -20,7 +20,8 @@ unfolding previous in_memory
 previous_in_memory ctx memory pass lane column = grind (arith, nat_tests)
 
 -- so that the first word that is read there is the previous block's
-pub first_word_read : {B : Type 0} (words : B → List ℕ) (ctx : Context) (memory : List B) (pass lane column place word : ℕ) (other : B)
+pub first_word_read : {B : Type 0} (words : B → List ℕ) (ctx : Context) (memory : List B) (pass lane column place word : ℕ)
+    (other : B)
     → place < length memory → place ≡ previous_place ctx lane column
     → word ≡ slice_index (words (slice_index_or memory place other)) 0
     → word ≡ slice_index (previous ctx (in_memory ctx (map words memory)) pass lane column) 0

@@ -8,7 +8,8 @@ unrefused : {A : Type 0} (refusal : Option Error) (x y : A) → Ok x ≡ answer_
 unrefused refusal x y is = grind arith
 
 -- so that any other value is an answer
-pub answered : {A B : Type 0} (refusal : Option Error) (x y : A) (v : B) → Ok x ≡ answer_unless refusal y → Ok v ≡ answer_unless refusal v
+pub answered : {A B : Type 0} (refusal : Option Error) (x y : A) (v : B) → Ok x ≡ answer_unless refusal y → Ok v
+    ≡ answer_unless refusal v
 answered refusal x y v is = rw (unrefused refusal x y is) refl
 
 -- nor is there one in a front of the table
@@ -18,7 +19,8 @@ front_of ((false, fault) ∷ xs) ys none = front_of xs ys none
 front_of ((true, fault) ∷ xs) ys none = cc
 
 -- a call that asks for memory after the same checks has no fault, and with that memory an answer
-pub checked_first : (argon2 : Argon2) (associated n lent lent' : ℕ) (password salt : List ℕ) (x y : Unit {0}) (r : Result (Unit {0}) Error)
+pub checked_first : (argon2 : Argon2) (associated n lent lent' : ℕ) (password salt : List ℕ) (x y : Unit {0})
+    (r : Result (Unit {0}) Error)
     → associated ≤ max_len → Ok x ≡ answer_unless (refusal_of argon2 n password salt lent) y → lent' ≡ lent
     → r ≡ answer_unless (refusal_of argon2 n password salt lent') y
     → ChecksFirst (data_refusal associated (own_parameters argon2).output_len n (length password) (length salt)) r

@@ -126,7 +126,8 @@ run_alone ctx sizes pass slice lane four (x ∷ xs) m memory memory' h =
     let rest = λ (l : ℕ). run_alone ctx sizes pass slice l four xs (MayRun-tail ctx pass slice x xs m) in
     elim (cases_eq x lane) [
       | inl e ↦ subst (λ l. SeenAlike ctx slice l memory memory' → Seen l (turns l (x ∷ xs))) e (λ own.
-          subst (Seen x) (sym (turns-same x xs)) (rest x _ _ (step_of_own ctx sizes pass slice x _ memory memory' st.0 st.1 own))) h
+          subst (Seen x) (sym (turns-same x xs))
+          (rest x _ _ (step_of_own ctx sizes pass slice x _ memory memory' st.0 st.1 own))) h
       | inr ne ↦ subst (Seen lane) (sym (turns-other lane x xs ne))
           (rest lane _ _ (step_of_other ctx pass slice lane x _ memory memory' ne st.0.in_columns st.1 h))
     ]

@@ -102,7 +102,10 @@ slice_fills ctx sizes first pass slice memory memory' four fills before after h 
           let above = le-div (suc slice) c s (omega arith) (omega arith) in
           let old = h.old r l (k * s + i) turn a (omega (arith, div-add-mod' c s)) (omega (arith, div-add-mod' c s)) in
           subst (Is r l) (div-add-mod' c s)
-          (cc ((one l a).in_after k l i above here.one_of_four a small, (other l a).in_after k l i above here.one_of_four a small));
+          (cc (
+            (one l a).in_after k l i above here.one_of_four a small,
+            (other l a).in_after k l i above here.one_of_four a small,
+          ));
     }
 
 -- a first slice that was begun is where pass 0 begins

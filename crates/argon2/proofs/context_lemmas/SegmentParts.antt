@@ -33,7 +33,13 @@ step_parts ctx at memory before own after b st size all parts made =
           grind (arith, parts.in_before k o i, kept o (k * s + i), in_lane s k i, column_apart s k i at.slice at.index);
       in_own = λ i lt.
           let fits = in_lane s at.slice i st.in_slices lt in
-          grind (arith, get_or-set_same {A = List ℕ}, get_or-set_other {A = List ℕ}, parts.in_own i, kept at.lane (at.slice * s + i));
+          grind (
+            arith,
+            get_or-set_same {A = List ℕ},
+            get_or-set_other {A = List ℕ},
+            parts.in_own i,
+            kept at.lane (at.slice * s + i),
+          );
       in_after = λ k o i above below a lt.
           let apart = column_apart s at.slice at.index k i above st.in_segment in
           grind (arith, parts.in_after k o i, kept o (k * s + i), in_lane s k i);

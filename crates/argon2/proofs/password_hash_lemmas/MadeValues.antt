@@ -44,7 +44,8 @@ module _ (target : Target) (is : IsTarget target) (password salt : List ℕ) whe
   hash_bytes = tag_bytes (context_with target.settings target.secret) password salt (tag_length target.settings) is.tag_length
 
   -- its parameters are read again
-  parameters_shown : params_of (Some (length hash)) (list_of target.settings.parameters) ≡ Ok (with_tag_length target.settings).parameters
+  parameters_shown : params_of (Some (length hash)) (list_of target.settings.parameters)
+      ≡ Ok (with_tag_length target.settings).parameters
   parameters_shown = rw hash_bytes.1 (read_again _ _ _ _ _ (Some (tag_length target.settings)) is.m_cost is.t_cost costs.0
       is.keyid.0 is.associated.0 is.keyid.2 is.associated.2 costs.2)
 

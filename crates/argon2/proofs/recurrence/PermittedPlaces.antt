@@ -109,4 +109,13 @@ module _ (ctx : Context) (sizes : Sizes ctx) (column : ℕ) (in_columns : column
       let left = get_or_append_left f own (0, 0) i in
       let right = get_or-append_right f own (length f) i (0, 0) refl in
       let alone = get_or_append_left f [] (0, 0) i in
-      grind (arith, bounds, get_or-finished pass i, length-columns, get_or-columns, length-append {A = ℕ × ℕ}, length-take {A = ℕ × ℕ}, nat_tests)
+      grind (
+        arith,
+        bounds,
+        get_or-finished pass i,
+        length-columns,
+        get_or-columns,
+        length-append {A = ℕ × ℕ},
+        length-take {A = ℕ × ℕ},
+        nat_tests,
+      )

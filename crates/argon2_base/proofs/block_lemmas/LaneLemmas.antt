@@ -15,7 +15,16 @@ zip2_at f a b j in_a in_b = get_or-zip2 f a b j 0 0 0 in_a in_b
 pub ruleset lane_writes = (get_or-put_chunk_above, get_or-put_chunk_at, get_or-put_chunk_below)
 
 -- the words of vectors that are put side by side, put together or written
-pub ruleset lane_steps = (zip2_at, length-zip2, get_or_append_left, get_or-append_right, get_or-replicate, length-replicate, and_numeral, lane_writes)
+pub ruleset lane_steps = (
+  zip2_at,
+  length-zip2,
+  get_or_append_left,
+  get_or-append_right,
+  get_or-replicate,
+  length-replicate,
+  and_numeral,
+  lane_writes,
+)
 
 -- what is true of each of eight lanes
 pub below_eight : (P : ℕ → Type 0) → P 0 → P 1 → P 2 → P 3 → P 4 → P 5 → P 6 → P 7 → (j : ℕ) → j < 8 → P j

@@ -111,7 +111,8 @@ kernel_mixes r out rows across cols down long_r long_out rows_are across_are col
     ∙ ap (λ l. slice_index l k) (down_are j hj ∙ ap perm (column_is j hj))
     in
     mixed_written false r r out long_r long_r long_out (λ w h.
-    stored w h ∙ ap (λ a. bit_xor a (slice_index r w)) (down_word (w % 16 / 2) (2 * (w / 16) + w % 2) (omega arith) (omega arith)))
+    stored w h ∙ ap (λ a. bit_xor a (slice_index r w))
+    (down_word (w % 16 / 2) (2 * (w / 16) + w % 2) (omega arith) (omega arith)))
 
 -- the rows and then the columns of a half of eight vectors, mixed
 pub half_mixed : (r : List ℕ) (x across v : List (List ℕ)) (h : ℕ)

@@ -14,7 +14,16 @@ name_chars s h = (and_parts _ (list_all is_name_char s) h).1
 
 -- a name is text
 pub name_utf8 : (s : List ℕ) → is_name s ≡ true → IsUtf8 s
-name_utf8 s h = grind (arith, common_steps, IsUtf8-from_ascii, IsAscii-from_all, All-from_recursion, tests_give, nat_tests, name_chars)
+name_utf8 s h = grind (
+  arith,
+  common_steps,
+  IsUtf8-from_ascii,
+  IsAscii-from_all,
+  All-from_recursion,
+  tests_give,
+  nat_tests,
+  name_chars,
+)
 
 -- a character that doesn't pass is in no list of those that do
 pub lacks_by : (p : ℕ → Bool) (c : ℕ) → p c ≡ false → (s : List ℕ) → list_all p s ≡ true

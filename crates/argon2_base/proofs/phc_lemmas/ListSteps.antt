@@ -8,7 +8,16 @@ use Rattle.argon2_base.proofs.phc_lemmas.ParamsTextLemmas.{all_params, are_param
 use Rattle.argon2_base.proofs.phc_lemmas.Separators.{slice_split-lacks}
 
 -- what a list's text says
-pub ruleset list_reads = (all_params, parts_again, good_items, read_list, read_again, one_list, bytes_eq-Decides, pairs_eq-Decides)
+pub ruleset list_reads = (
+  all_params,
+  parts_again,
+  good_items,
+  read_list,
+  read_again,
+  one_list,
+  bytes_eq-Decides,
+  pairs_eq-Decides,
+)
 
 -- a list with one parameter more
 pub ruleset list_grows = (are_params-more, more_again, refused_name, refused_param, long_value, length-strict_base64)

@@ -31,7 +31,15 @@ decimal_lacks n small = lacks_by is_value_char 36 refl (decimal n) (decimal_char
 -- no field has a `$`
 fields_lack : (v : Phc) → IsPhc v → AllByRecursion (Lacks 36) (fields v)
 fields_lack v h =
-    grind (arith, name_lacks 36 refl v.algorithm, all-append, decimal_lacks, base64_lacks 36 refl, params_text_lacks v.params, all_params v.params)
+    grind (
+      arith,
+      name_lacks 36 refl v.algorithm,
+      all-append,
+      decimal_lacks,
+      base64_lacks 36 refl,
+      params_text_lacks v.params,
+      all_params v.params,
+    )
 
 -- ---- the fields joined
 
@@ -129,4 +137,13 @@ left_none None e = refl
 left_none (Some x) e = absurd (omega (arith, ap length e, length-slice_split (λ b. b == 36) x.now))
 
 -- which bytes and which items stand first
-pub ruleset field_steps = (base64_one, refused_text, length-strict_base64, text_item, Lacks_not, left_none, none_after, append-nil)
+pub ruleset field_steps = (
+  base64_one,
+  refused_text,
+  length-strict_base64,
+  text_item,
+  Lacks_not,
+  left_none,
+  none_after,
+  append-nil,
+)

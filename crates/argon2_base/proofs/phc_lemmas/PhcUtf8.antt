@@ -14,7 +14,16 @@ behind {c} {s} low =
 
 -- a value is text
 value_utf8 : (s : List ℕ) → is_value s ≡ true → IsUtf8 s
-value_utf8 s h = grind (arith, common_steps, IsUtf8-from_ascii, IsAscii-from_all, All-from_recursion, tests_give, nat_tests, and_parts)
+value_utf8 s h = grind (
+  arith,
+  common_steps,
+  IsUtf8-from_ascii,
+  IsAscii-from_all,
+  All-from_recursion,
+  tests_give,
+  nat_tests,
+  and_parts,
+)
 
 -- an item is text
 item_utf8 : (p : Pair) → is_param p ≡ true → IsUtf8 (item p)

@@ -22,10 +22,20 @@ encoded_chars : (p : ℕ → Bool) (t : List ℕ) (m : List ℕ) → ((i : ℕ) 
 unfolding encode_symbols
 encoded_chars p t [] passes bytes = refl
 encoded_chars p t (a ∷ []) passes bytes = grind (arith, passes (a / 4), passes (a % 4 * 16), bytes 0)
-encoded_chars p t (a ∷ b ∷ []) passes bytes = grind (arith, passes (a / 4), passes (a % 4 * 16 + b / 16), passes (b % 16 * 4), bytes 0, bytes 1)
+encoded_chars p t (a ∷ b ∷ []) passes bytes =
+    grind (arith, passes (a / 4), passes (a % 4 * 16 + b / 16), passes (b % 16 * 4), bytes 0, bytes 1)
 encoded_chars p t (a ∷ b ∷ c ∷ m) passes bytes =
     let rest = encoded_chars p t m passes (λ i. bytes (suc (suc (suc i)))) in
-    grind (arith, passes (a / 4), passes (a % 4 * 16 + b / 16), passes (b % 16 * 4 + c / 64), passes (c % 64), bytes 0, bytes 1, bytes 2)
+    grind (
+      arith,
+      passes (a / 4),
+      passes (a % 4 * 16 + b / 16),
+      passes (b % 16 * 4 + c / 64),
+      passes (c % 64),
+      bytes 0,
+      bytes 1,
+      bytes 2,
+    )
 
 -- each strict Base64 text is made of characters of values
 pub base64_chars : (b : List ℕ) → IsBytes b → list_all is_value_char (strict_base64 b) ≡ true

@@ -10,7 +10,8 @@ use Rattle.argon2_calibrate.specs.declared.options.Options.{Options}
 use Rattle.argon2_calibrate.specs.declared.stopwatch.Times.{Times}
 use Rattle.argon2_calibrate.proofs.search.search.Goals as goal
 
-valid_within : (most least p m t : ℕ) → AreValid (cost_parameters most least p None) → 8 * p ≤ m → 1 ≤ t → AreValid (cost_parameters m t p None)
+valid_within : (most least p m t : ℕ) → AreValid (cost_parameters most least p None) → 8 * p ≤ m → 1 ≤ t
+    → AreValid (cost_parameters m t p None)
 valid_within most least p m t valid room some = grind (arith, nat_tests)
 
 choice_of : (Takes : ℕ → ℕ → Option Times → Type 0) (options : Options) (first : Choice) (found : Found)

@@ -14,7 +14,8 @@ loop-line-preserved c =
     let all = c.loop-line.invariant (entry_or_flaw x ∷ rest)
     (subst (λ ls. AllZip (IsEntryOrFlaw c.args.any_text) ls (entry_or_flaw x ∷ rest)) (sym line) (said, are)) in
     rw c.in_ok-push.ensures.items
-    (subst (AllZip (IsEntryOrFlaw c.args.any_text) (lines (unmarked c.args.input.now))) (map-push entry_or_flaw c.loop-line.found.items x rest) all)
+    (subst (AllZip (IsEntryOrFlaw c.args.any_text) (lines (unmarked c.args.input.now)))
+    (map-push entry_or_flaw c.loop-line.found.items x rest) all)
 
 pub returns : goal.returns
 returns c =

@@ -4,5 +4,6 @@ use Rattle.argon2_programs.proofs.prefixes.bare_str.Goals as goal
 
 pub returns-else-begins_any : goal.returns-else-begins_any
 returns-else-begins_any c =
-    let is : begins_any (codes "$" ∷ []) (after_django c.args.text.now) ≡ false = rw (← c.str_after_any-rest.ensures, ← c.as_bytes.ensures.value, ← c.begins_any.ensures) c.if-begins_any.false in
+    let is : begins_any (codes "$" ∷ []) (after_django c.args.text.now) ≡ false =
+    rw (← c.str_after_any-rest.ensures, ← c.as_bytes.ensures.value, ← c.begins_any.ensures) c.if-begins_any.false in
     rw (is) c.str_after_any.ensures

@@ -8,7 +8,8 @@ loop-init g c = search (arith, from_key-none)
 pub returns-then-not-branch-clause-found : goal.returns-then-not-branch-clause-found
 returns-then-not-branch-clause-found g c ended =
     let fresh = λ (clean : IsHonest g.S.Store c.next.new.self). c.requires (search arith) in
-    let (names, texts, lines, at) = known (g.S.Store.view c.next.new.self).is_clean ((g.S.Store.view c.args.store.now).trees 0) (λ clean.
+    let (names, texts, lines, at) =
+    known (g.S.Store.view c.next.new.self).is_clean ((g.S.Store.view c.args.store.now).trees 0) (λ clean.
     let first = fresh clean in
     let read = c.loop.invariant.2 (search arith) in
     let none = (rw c.if-not-branch.true at (c.in_ok-next.ensures.ok clean)).0 in

@@ -11,7 +11,8 @@ returns-in_ok-copy_text-in-Some-true-clause-found g c names texts sees clean =
 pub returns-in_err-copy_text-in-Some-true-clause-reads : goal.returns-in_err-copy_text-in-Some-true-clause-reads
 returns-in_err-copy_text-in-Some-true-clause-reads g c names texts sees =
     let memory = λ (clean : IsHonest g.S.Store c.find.new.store).
-    let (text, has, at) = (rw (c.in-Some-true.is, c.in-Some-true.field-0-test) at c.in_ok-find.ensures.found) names clean (search arith) in
+    let (text, has, at) = (rw (c.in-Some-true.is, c.in-Some-true.field-0-test) at c.in_ok-find.ensures.found) names clean
+    (search arith) in
     c.in_err-copy_text-in-Some-true.ensures (c.args.name.now, text) (texts c.args.name.now text has).1 at in
     rw (err_is c.from_residual-in_err-copy_text-in-Some-true.result _ c.from_residual-in_err-copy_text-in-Some-true.ensures.1)
     (search arith)

@@ -17,7 +17,8 @@ loop-preserved g c = record {
   same = search arith;
   quiet = search arith;
   lines = λ clean names texts sees.
-      rw (c.in-Some-All.is, c.in-Some-All.field-0-is) at (next_row _ _ names _ _ _ _ _ (c.loop.invariant.lines (search arith) names texts sees)
+      rw (c.in-Some-All.is, c.in-Some-All.field-0-is) at
+      (next_row _ _ names _ _ _ _ _ (c.loop.invariant.lines (search arith) names texts sees)
       (rw c.if-not-branch.false at (c.in_ok-next.ensures.ok clean)) c.write_line.result c.write_line.ensures);
 }
 

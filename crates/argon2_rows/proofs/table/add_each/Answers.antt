@@ -7,16 +7,24 @@ use Rattle.argon2_rows.proofs.table.add_each.Goals as goal
 use Rattle.argon2_rows.proofs.table.add_each.Goals.{After-insert, then-is_last, else-is_last, then-not-is_lt+in_ok-found+in_default, else-not-is_lt}
 
 -- no name after a new one has a text if none had one
-none_after_new : (before : Texts) (name text : List ℕ) → HasNoneAfter before name → HasNoneAfter (changed before name (Some text)) name
+none_after_new : (before : Texts) (name text : List ℕ) → HasNoneAfter before name
+    → HasNoneAfter (changed before name (Some text)) name
 none_after_new before name text none later less =
-    grind (arith, get-at before name later (Some text), bytes_eq-Decides later name, tied_itself nat_list_cmp_total name, none later less)
+    grind (
+      arith,
+      get-at before name later (Some text),
+      bytes_eq-Decides later name,
+      tied_itself nat_list_cmp_total name,
+      none later less,
+    )
 
 -- The name has no row, as a look-up found, or since it comes after the last one, and that after all others. Its row is written
 -- after those of the names before it.
 added : (g : _) (c : After-insert g) (before : Texts) → AreTexts before
     → (IsHonest g.S.Store c.args.store.now → Sees (g.S.Store.view c.args.store.now) before)
     → (mid : Texts) × AreTexts mid
-    × Writes g.S.Store c.args.store.now c.insert.new.store before (changed mid c.index-new-k.result.0.now (Some c.index-new-k.result.1.text.now))
+    × Writes g.S.Store c.args.store.now c.insert.new.store before
+    (changed mid c.index-new-k.result.0.now (Some c.index-new-k.result.1.text.now))
     (Any IsLong (map entry_of c.args.new.now)) c.insert.result
     × (IsHonest g.S.Store c.if-not-is_lt.store → AddsAll before (map entry_of (take c.loop-k.k c.args.new.now)) mid
     × (get mid c.index-new-k.result.0.now ≡ None) × (IsTrue c.if-not-is_lt.is_last → HasNoneAfter mid c.index-new-k.result.0.now))
@@ -70,20 +78,24 @@ returns-in-Some-true g c before texts sees =
 
 pub returns-in_err-insert : goal.returns-in_err-insert
 returns-in_err-insert g c before texts sees =
-    let (mid, fine, wrote, all) = rw c.in_err-insert.was at (added g (goal.at.returns-in_err-insert g c).After-insert before texts sees) in
-    rw (err_is c.from_residual-in_err-insert.result _ c.from_residual-in_err-insert.ensures.1) (mid, fine, search arith, λ clean. tt)
+    let (mid, fine, wrote, all) = rw c.in_err-insert.was at
+    (added g (goal.at.returns-in_err-insert g c).After-insert before texts sees) in
+    rw (err_is c.from_residual-in_err-insert.result _ c.from_residual-in_err-insert.ensures.1)
+    (mid, fine, search arith, λ clean. tt)
 
 pub loop-k-preserved : goal.loop-k-preserved
 loop-k-preserved g c = (
   search (arith, keeps_index),
   λ before texts sees.
-      let (mid, fine, wrote, all) = rw c.in_ok-insert.was at (added g (goal.at.loop-k-preserved g c).After-insert before texts sees) in (
+      let (mid, fine, wrote, all) = rw c.in_ok-insert.was at
+      (added g (goal.at.loop-k-preserved g c).After-insert before texts sees) in (
         _,
         texts_changed mid _ (Some _) fine (rw c.as_bytes-last.ensures.value at c.as_bytes-last.ensures.utf8) (search arith),
         λ clean.
             let within : c.loop-k.k < length c.args.new.now = c.loop-k-test.true in
             let (adds, none, last) = all (omega (arith, clean, c.insert.ensures.quiet.clean)) in (
-              rw (map_more entry_of c.args.new.now c.loop-k.k c.index-new-k.result, ← c.index-new-k.is) (add_last _ before mid _ _ adds none refl),
+              rw (map_more entry_of c.args.new.now c.loop-k.k c.index-new-k.result, ← c.index-new-k.is)
+                  (add_last _ before mid _ _ adds none refl),
               λ is. rw c.as_bytes-last.ensures.value (none_after_new mid _ _ (last is)),
             ),
         wrote,

@@ -51,24 +51,28 @@ open_there-requires-clause-known g c known clean =
 
 pub returns-in-Err-read_catalog-clause-left : goal.returns-in-Err-read_catalog-clause-left
 returns-in-Err-read_catalog-clause-left g c =
-    unharmed c.probe_blank.ensures.log c.probe_blank.ensures.db c.in-Ok-new-2.unopened (search rules) (search rules) c.read_catalog.new.self _
+    unharmed c.probe_blank.ensures.log c.probe_blank.ensures.db c.in-Ok-new-2.unopened (search rules)
+    (search rules) c.read_catalog.new.self _
     c.close-in-Err-read_catalog.ensures (λ sized clean.
     (search arith, λ left may. as_before c.in-Ok-new-2.unopened sized left ((c.read_catalog.ensures.kept clean).crash left may)))
 
 pub returns-then-len-gt-LISTED-clause-left : goal.returns-then-len-gt-LISTED-clause-left
 returns-then-len-gt-LISTED-clause-left g c =
-    unharmed c.probe_blank.ensures.log c.probe_blank.ensures.db c.in-Ok-new-2.unopened (search rules) (search rules) c.read_catalog.new.self _
+    unharmed c.probe_blank.ensures.log c.probe_blank.ensures.db c.in-Ok-new-2.unopened (search rules)
+    (search rules) c.read_catalog.new.self _
     c.close-then-len-gt-LISTED.ensures (λ sized clean.
     (search arith, λ left may. as_before c.in-Ok-new-2.unopened sized left ((c.read_catalog.ensures.kept clean).crash left may)))
 
 pub returns-in-Err-open_there-clause-left : goal.returns-in-Err-open_there-clause-left
 returns-in-Err-open_there-clause-left g c =
-    unharmed c.probe_blank.ensures.log c.probe_blank.ensures.db c.in-Ok-new-2.unopened (search rules) (search rules) c.in-Err-open_there.left _
+    unharmed c.probe_blank.ensures.log c.probe_blank.ensures.db c.in-Ok-new-2.unopened (search rules)
+    (search rules) c.in-Err-open_there.left _
     c.close-in-Err-open_there.ensures (λ sized clean.
     let was = c.in-Err-open_there.ensures.falls clean in
     let kept = c.read_catalog.ensures.kept was in (
       search arith,
-      λ left may. as_before c.in-Ok-new-2.unopened sized left (after _ _ _ (c.in-Ok-read_catalog.ensures.ok was) kept.size kept left
+      λ left may. as_before c.in-Ok-new-2.unopened sized left
+          (after _ _ _ (c.in-Ok-read_catalog.ensures.ok was) kept.size kept left
           ((c.in-Err-open_there.ensures.unharmed clean).crash left may)),
     ))
 
@@ -88,7 +92,8 @@ returns-in-Ok-open_there-clause-opened g c clean =
       subst₂ (λ n i. FoundIn n i ((view store).committed 0)) (search rules) (search (arith, image_is)) (inl (
         (state store).committed,
         subst (Recovers _ _) once listed.found,
-        ∥∥₁_map (store.stored (c.in-Ok-open_there.ensures.ready.is_open clean)) (λ stored. rw (sized, schema) at stored.ours.file),
+        ∥∥₁_map (store.stored (c.in-Ok-open_there.ensures.ready.is_open clean))
+            (λ stored. rw (sized, schema) at stored.ours.file),
         grind arith,
         subst (ListsOne _) once (ap length (sym listed.lists) ∙ search rules),
       )),
@@ -108,7 +113,8 @@ returns-in-Ok-create-clause-opened g c clean =
 pub returns-in-Err-create-clause-left : goal.returns-in-Err-create-clause-left
 returns-in-Err-create-clause-left g c =
     let (wants, bare) = looked g (goal.at.returns-in-Err-create-clause-left g c).After-create in
-    unharmed c.probe_blank.ensures.log c.probe_blank.ensures.db c.in-Ok-new-2.unopened (search rules) (search rules) c.in-Err-create.left _
+    unharmed c.probe_blank.ensures.log c.probe_blank.ensures.db c.in-Ok-new-2.unopened (search rules)
+    (search rules) c.in-Err-create.left _
     c.close-in-Err-create.ensures (λ sized clean.
     let (was, size, none, before) = bare (c.in-Err-create.ensures.falls clean) in (
       was,

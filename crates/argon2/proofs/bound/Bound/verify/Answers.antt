@@ -12,7 +12,8 @@ err_is : {X E : Type 0} (r : Result X E) (e : E) → IsErrAnd r (λ f. f ≡ e) 
 err_is r e is = grind arith
 
 -- a value of which nothing is read is not accepted, for that reason
-faulty : {X Y : Type 0} (r : Result X Fault) (next : X → Result Y Fault) (fault : Fault) → r ≡ Err fault → Err fault ≡ result_and_then r next
+faulty : {X Y : Type 0} (r : Result X Fault) (next : X → Result Y Fault) (fault : Fault) → r ≡ Err fault → Err fault
+    ≡ result_and_then r next
 faulty r next fault is = grind arith
 
 -- why nothing is read is what verifying answers

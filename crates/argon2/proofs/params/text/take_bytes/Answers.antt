@@ -23,4 +23,5 @@ returns g c = rw (text_read g.row.MOST c.args.text.now c.in-Ok.bytes c.in-Ok.ens
 
 pub returns-in_default : goal.returns-in_default
 returns-in_default g c =
-    rw (text_refused g.row.MOST c.args.text.now c.in_default.field-0 (λ i. omega (arith, c.type_inv.text i)) c.in_default.ensures) refl
+    rw (text_refused g.row.MOST c.args.text.now c.in_default.field-0
+    (λ i. omega (arith, c.type_inv.text i)) c.in_default.ensures) refl

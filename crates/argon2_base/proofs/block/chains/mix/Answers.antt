@@ -11,14 +11,16 @@ returns c x y is =
     let rows = c.rows_of.ensures in
     let across = c.rows-across.ensures in
     let word : (w : ℕ) → w < 128
-    → slice_index c.put_columns-2.new.out w ≡ written c.args.xors (slice_index old w) (bit_xor (mixed_word r w) (slice_index r w)) =
+    → slice_index c.put_columns-2.new.out w
+    ≡ written c.args.xors (slice_index old w) (bit_xor (mixed_word r w) (slice_index r w)) =
     λ w below.
     elim (cases_lt (w % 16) 8) [
       | inl left ↦
           c.put_columns-2.ensures.others w (omega arith)
           ∙ c.put_columns.ensures.here w below (omega arith)
           ∙ ap (λ a. written c.args.xors (slice_index old w) (bit_xor a (slice_index r w)))
-          (half_mixed r c.rows_of.result c.rows-across.result c.left_columns.result 0 rows across c.left_columns.ensures w below (omega arith))
+          (half_mixed r c.rows_of.result c.rows-across.result c.left_columns.result 0 rows across c.left_columns.ensures w
+          below (omega arith))
       | inr right ↦
           let other = c.put_columns.ensures.others w (omega arith) in
           let mixed = half_mixed r c.rows_of.result c.rows-across.result c.right_columns.result 1 rows across

@@ -6,4 +6,5 @@ pub returns : goal.returns
 returns c i h =
     group_permuted (λ k. 8 * (k / 2) + 2 * i + k % 2) c.args.v _ _ _ _ _ _ _ _ _ _ _ _ _ _
     (λ k l. c.gb.ensures _ (omega arith)) (c.pairs_by_three.ensures i h) (c.pairs_by_one.ensures i h) (c.pairs_by_two.ensures i h)
-    (λ k l. c.gb-2.ensures _ (omega arith)) (c.pairs_by_one-2.ensures i h) (c.pairs_by_three-2.ensures i h) (c.pairs_by_two-2.ensures i h)
+    (λ k l. c.gb-2.ensures _ (omega arith)) (c.pairs_by_one-2.ensures i h) (c.pairs_by_three-2.ensures i h)
+    (c.pairs_by_two-2.ensures i h)

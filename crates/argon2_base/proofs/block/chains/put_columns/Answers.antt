@@ -31,7 +31,8 @@ vectors-preserved c =
                   | inr right ↦
                       let place : 32 * i + 8 * h + 16 + w % 8 ≡ w = omega arith in
                       let lane : 8 + w % 8 ≡ 8 * (w / 16 % 2) + w % 8 = omega arith in
-                      let old = ap (slice_index c.put.new.out) place ∙ first.above w (omega arith) ∙ before.left w (omega arith) in
+                      let old = ap (slice_index c.put.new.out) place ∙ first.above w (omega arith)
+                      ∙ before.left w (omega arith) in
                       let word = c.right_half.ensures (w % 8) (omega arith) ∙ ap₂ (lane_word c.args.v) vector lane in
                       sym (ap (slice_index c.put-in-vectors.new.out) place)
                       ∙ second.here (w % 8) (omega arith)

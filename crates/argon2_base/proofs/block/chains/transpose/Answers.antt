@@ -9,7 +9,8 @@ returns c =
     let high = c.exchange_fours-2.ensures in
     let even = c.exchange_halves.ensures in
     let odd = c.exchange_halves-2.ensures in
-    let whole : c.exchange_halves.result.0 ∷ c.exchange_halves-2.result.0 ∷ c.exchange_halves.result.1 ∷ c.exchange_halves-2.result.1 ∷ []
+    let whole : c.exchange_halves.result.0 ∷ c.exchange_halves-2.result.0 ∷ c.exchange_halves.result.1
+    ∷ c.exchange_halves-2.result.1 ∷ []
     ≡ transposed x = rw (even.left, even.right, odd.left, odd.right) (rw (low.left, low.right, high.left, high.right) refl) in
     record {
       to_fours = λ i h. ap (fours i) whole ∙ fours_of_transposed x i h;

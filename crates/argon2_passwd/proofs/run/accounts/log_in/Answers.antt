@@ -28,7 +28,11 @@ returns-in_err-accepted g c =
     let denied = subst (λ o. Denies policy c.args.password.now o c.in_err-accepted.field-0.0) c.as_deref-stored.ensures.value
     c.in_err-accepted.ensures.step in
     rw (err_is _ _ c.from_residual-in_err-accepted.ensures.1)
-    (inl (inl (inl (option_map string_bytes c.in_ok-text.text, (c.in_err-accepted.field-0.0, denied, refl), c.in_ok-text.ensures))))
+    (inl (inl (inl (
+      option_map string_bytes c.in_ok-text.text,
+      (c.in_err-accepted.field-0.0, denied, refl),
+      c.in_ok-text.ensures,
+    ))))
 
 pub returns-in_default : goal.returns-in_default
 returns-in_default g c =

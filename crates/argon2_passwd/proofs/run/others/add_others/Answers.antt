@@ -20,4 +20,7 @@ pub returns : goal.returns
 returns g c =
     let serves = rw c.as_slice-2.ensures.value at c.in_ok-add_new.ensures.ok in
     let split = rw c.as_slice.ensures.value at c.in_ok-entries.ensures in
-    inl ((λ none. absurd {0} (grind (arith, common_steps))), added _ _ _ c.in_ok-new.ensures.looks serves split c.in_ok-new.ensures.new)
+    inl (
+      (λ none. absurd {0} (grind (arith, common_steps))),
+      added _ _ _ c.in_ok-new.ensures.looks serves split c.in_ok-new.ensures.new,
+    )

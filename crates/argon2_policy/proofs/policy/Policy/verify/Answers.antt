@@ -12,7 +12,8 @@ returns-in_default-clause-found c =
     let shown = c.in-Ok.ensures.shown in (
       c.in-Ok.ensures.within,
       found_by_target policy c.args.password.now v (stored_value c.in-Ok.text) shown c.age.result
-          (c.in_default.ensures.answer v shown) (c.age.ensures v (shows policy c.args.password.now v (stored_value c.in-Ok.text) shown)),
+          (c.in_default.ensures.answer v shown)
+          (c.age.ensures v (shows policy c.args.password.now v (stored_value c.in-Ok.text) shown)),
     )
 
 pub returns-then-ne-clause-denied : goal.returns-then-ne-clause-denied
@@ -47,9 +48,11 @@ returns-in_err-verify-clause-denied c =
     let v = phc_of c.args.hash.now in
     let shown = c.in-Ok.ensures.shown in
     let is : c.in-Err.error ≡ PasswordInvalid = grind arith in
-    let first = subst (λ e. IsVerifyAnswer policy.target.secret c.args.password.now v (Err e)) is (c.in-Err.ensures.answer v shown) in
+    let first = subst (λ e. IsVerifyAnswer policy.target.secret c.args.password.now v (Err e)) is
+    (c.in-Err.ensures.answer v shown) in
     rw (err_is _ _ c.from_residual.ensures.1)
-    (denied_by_old policy c.args.password.now v (stored_value c.in-Ok.text) shown (secret_of c.in-Some.old) c.in_err-verify.field-0.0
+    (denied_by_old policy c.args.password.now v (stored_value c.in-Ok.text) shown
+    (secret_of c.in-Some.old) c.in_err-verify.field-0.0
     (rw c.in-Some.is refl) c.in-Ok.ensures.within first (c.in_err-verify.ensures.answer v shown))
 
 pub returns-clause-found : goal.returns-clause-found
@@ -58,7 +61,8 @@ returns-clause-found c =
     let v = phc_of c.args.hash.now in
     let shown = c.in-Ok.ensures.shown in
     let is : c.in-Err.error ≡ PasswordInvalid = grind arith in
-    let first = subst (λ e. IsVerifyAnswer policy.target.secret c.args.password.now v (Err e)) is (c.in-Err.ensures.answer v shown) in (
+    let first = subst (λ e. IsVerifyAnswer policy.target.secret c.args.password.now v (Err e)) is
+    (c.in-Err.ensures.answer v shown) in (
       c.in-Ok.ensures.within,
       found_by_old policy c.args.password.now v (stored_value c.in-Ok.text) shown (secret_of c.in-Some.old)
           (rw c.in-Some.is refl) first (c.in_ok-verify.ensures.answer v shown),

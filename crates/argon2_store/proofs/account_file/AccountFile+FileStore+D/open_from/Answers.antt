@@ -28,7 +28,8 @@ returns-in-Ok-true-clause-ready g c =
 pub returns-in_err-store-clause-err : goal.returns-in_err-store-clause-err
 returns-in_err-store-clause-err g c =
     rw (err_is c.from_residual.result _ c.from_residual.ensures.1)
-    (of_database _ c.in_err-store.ensures.error (λ clean damaged. absurd (c.in_default.ensures.whole (c.in_err-store.ensures.left.0 clean) damaged))
+    (of_database _ c.in_err-store.ensures.error
+    (λ clean damaged. absurd (c.in_default.ensures.whole (c.in_err-store.ensures.left.0 clean) damaged))
     (λ clean n has. absurd (c.in_default.ensures.known (c.in_err-store.ensures.left.0 clean) n has))
     (unharmed_then _ c.in_default.ensures.reads c.in_err-store.ensures.left.1))
 
@@ -40,7 +41,8 @@ returns-clause-err g c =
     let held = λ (clean : AreClean g.D.Disk c.close.result.log c.close.result.db).
     (c.in_ok-store.ensures.opened (omega (arith, c.load.ensures.quiet.clean, now clean))).1 in
     let unharmed = unharmed_then _ c.in_default.ensures.reads
-    (unharmed_by_reads (c.check_headers.new.files.log, c.check_headers.new.files.db) c.in_ok-store.store c.load.new.store _ g.met.D.Disk.seen_may_stay
+    (unharmed_by_reads (c.check_headers.new.files.log, c.check_headers.new.files.db) c.in_ok-store.store c.load.new.store _
+    g.met.D.Disk.seen_may_stay
     c.load.ensures.quiet c.in_ok-store.ensures.opened c.close.ensures) in
     elim c.match-load.branch [
       | in-Ok-false w ↦ rw w.error-is record {

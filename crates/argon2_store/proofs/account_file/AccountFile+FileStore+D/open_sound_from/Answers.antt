@@ -6,7 +6,8 @@ use Rattle.argon2_store.proofs.account_file.AccountFile+FileStore+D.open_sound_f
 pub returns-in_err-store-clause-err : goal.returns-in_err-store-clause-err
 returns-in_err-store-clause-err g c =
     rw (err_is c.from_residual.result _ c.from_residual.ensures.1)
-    (of_database _ c.in_err-store.ensures.error (λ clean damaged. absurd (c.in_default.ensures.whole (c.in_err-store.ensures.left.0 clean) damaged))
+    (of_database _ c.in_err-store.ensures.error
+    (λ clean damaged. absurd (c.in_default.ensures.whole (c.in_err-store.ensures.left.0 clean) damaged))
     (λ clean n has. absurd (c.in_default.ensures.known (c.in_err-store.ensures.left.0 clean) n has))
     (unharmed_then _ c.in_default.ensures.reads c.in_err-store.ensures.left.1))
 
@@ -20,15 +21,24 @@ invariant_of-result g c =
     let reads = c.in_default.ensures.reads in
     let opened = λ (clean : IsClean (view c.in_ok-store.store)). c.in_ok-store.ensures.opened clean in
     let it = has_held c.in_ok-store.store _ (λ clean. c.requires.sound (clean_before reads (opened clean).1))
-    (λ clean. ((opened clean).0, subst (λ i. FoundIn 4096 i ((view c.in_ok-store.store).committed 0)) (seen_same reads) (opened clean).2)) in
+    (λ clean. (
+      (opened clean).0,
+      subst (λ i. FoundIn 4096 i ((view c.in_ok-store.store).committed 0)) (seen_same reads)
+          (opened clean).2,
+    )) in
     record { kept = ∣ (it.0, it.1) ∣₁ }
 
 pub returns-clause-ready : goal.returns-clause-ready
 returns-clause-ready g c =
     let reads = c.in_default.ensures.reads in
     let opened = λ (clean : IsClean (view c.in_ok-store.store)). c.in_ok-store.ensures.opened clean in
-    let (names, has, lines, holds) = has_held c.in_ok-store.store _ (λ clean. c.requires.sound (clean_before reads (opened clean).1))
-    (λ clean. ((opened clean).0, subst (λ i. FoundIn 4096 i ((view c.in_ok-store.store).committed 0)) (seen_same reads) (opened clean).2)) in
+    let (names, has, lines, holds) =
+    has_held c.in_ok-store.store _ (λ clean. c.requires.sound (clean_before reads (opened clean).1))
+    (λ clean. (
+      (opened clean).0,
+      subst (λ i. FoundIn 4096 i ((view c.in_ok-store.store).committed 0)) (seen_same reads)
+          (opened clean).2,
+    )) in
     let is_open = λ (clean : IsClean (view c.in_ok-store.store)). (not_broken _ _ (opened clean).0.unbroken).1 in (
       names,
       record {

@@ -22,7 +22,10 @@ returns-in_err-commit-in-Ok g c before has =
     (rw c.in_err-commit-in-Ok.was at (written g (goal.at.returns-in_err-commit-in-Ok g c).After-commit before has))
 
 pub invariant_of-self : goal.invariant_of-self
-invariant_of-self g c = record { kept = ∥∥₁_map c.args.self.now.kept (λ it. has_either c.commit.result (written g c it.0 it.1).3) }
+invariant_of-self g c = record {
+  kept =
+      ∥∥₁_map c.args.self.now.kept (λ it. has_either c.commit.result (written g c it.0 it.1).3);
+}
 
 pub returns-in-Err : goal.returns-in-Err
 returns-in-Err g c before has =

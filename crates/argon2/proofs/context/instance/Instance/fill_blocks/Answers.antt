@@ -24,7 +24,8 @@ loop-lane-init g c = record {
 
 pub fill_columns-requires-clause-count : goal.fill_columns-requires-clause-count
 fill_columns-requires-clause-count g c =
-    let few = calls_before-few c.args.self.now c.passes-pass-end.ensures.sizes c.loop-pass.pass c.loop-slice.slice c.loop-lane.lane
+    let few = calls_before-few c.args.self.now c.passes-pass-end.ensures.sizes c.loop-pass.pass c.loop-slice.slice
+    c.loop-lane.lane
     (omega arith) (omega arith) (omega arith) in
     omega (arith, few, c.loop-lane.invariant.watched.count)
 

@@ -26,6 +26,7 @@ invariant-loop-lane g l =
     record {
       filled : IsFilledUpTo l.self first l.pass (in_order l.self l.pass l.slice l.lane (columns_before l.self l.pass l.slice))
           (map g.B.MemoryBlock.words l.blocks) l.fn.watch.positions.now l.watch.positions.now;
-      watched : Watches (passes_calls l.self l.pass + slices_calls l.self l.pass l.slice + l.lane * segment_calls l.self l.pass l.slice)
+      watched : Watches (passes_calls l.self l.pass + slices_calls l.self l.pass l.slice + l.lane * segment_calls l.self
+          l.pass l.slice)
           l.fn.watch l.watch;
     }

@@ -7,7 +7,8 @@ invariant-loop-index g l =
     let blocks = map g.B.MemoryBlock.words in
     record {
       filled : Fills l.self l.pass (in_order l.self l.pass l.slice l.lane (columns_before l.self l.pass l.slice))
-          (in_order l.self l.pass l.slice l.lane (l.slice * segment_length l.self + l.index)) (blocks l.fn.memory) (blocks l.memory)
+          (in_order l.self l.pass l.slice l.lane (l.slice * segment_length l.self + l.index)) (blocks l.fn.memory)
+          (blocks l.memory)
           l.fn.watch.positions.now l.watch.positions.now;
       addresses : l.addresses ≡ addresses_at l.self l.pass l.lane l.slice (l.index - 1);
       watched : Watches (address_mixings l.self l.pass l.slice (l.index - 1) + (l.index - l.start)) l.fn.watch l.watch;

@@ -10,9 +10,11 @@ returns-clause-step g c =
     let m = c.args.memory.now in
     let at = c.args.at in
     let q = c.place-previous.ensures.value ∙ ap (λ column. at.lane * lane_length ctx + column) c.previous_column.ensures.value in
-    let word = c.word-word.ensures _ (first_word_read f ctx m at.pass at.lane (column_of ctx at) _ _ _ (search rules) q c.first_word.ensures) in
+    let word = c.word-word.ensures _
+    (first_word_read f ctx m at.pass at.lane (column_of ctx at) _ _ _ (search rules) q c.first_word.ensures) in
     let r : c.place-reference.result ≡ place_of ctx (reference ctx at.pass at.lane (column_of ctx at) c.word-word.result) =
-    c.place-reference.ensures.value ∙ (λ i. c.reference-lane.ensures.lane i * lane_length ctx + c.reference-lane.ensures.column i) in
+    c.place-reference.ensures.value
+    ∙ (λ i. c.reference-lane.ensures.lane i * lane_length ctx + c.reference-lane.ensures.column i) in
     let p = c.place-place.ensures.value in
     let n = c.column.ensures.value in
     let x = words_read f m c.place-previous.result c.index-memory-previous-2.result (grind arith) c.index-memory-previous-2.is in

@@ -21,4 +21,5 @@ returns-clause-step c = λ memory all parts.
     let made = c.put_mixed_words.ensures.words _ _ c.xor_of.ensures in
     let xors = c.xors.ensures in
     let is : c.put_mixed_words.new.out ≡ made_block ctx (in_memory ctx memory) at.pass at.lane column = cc in
-    step_parts ctx at memory c.args.before.now c.args.own.now c.args.after.now _ c.requires.step c.requires.parts.is_own all parts is
+    step_parts ctx at memory c.args.before.now c.args.own.now c.args.after.now _ c.requires.step c.requires.parts.is_own all
+    parts is
