@@ -1,17 +1,19 @@
 -- What a contract sees of parameters and of an `Argon2`.
-use Rattle.std.specs.Prelude.{◌≡◌, ℕ, ◌<◌, ◌≤◌, List, [], length, Option, Some, None, Result, Ok, Err}
+use Rattle.std.specs.Prelude.{◌≡◌, ℕ, ◌^◌, ◌<◌, ◌≤◌, List, [], length, Option, Some, None, Result, Ok, Err}
 use Rattle.argon2.specs.declared.algorithm.Algorithm.{Algorithm}
 use Rattle.argon2.specs.declared.algorithm.Algorithm.TheVariants.{Argon2id}
 use Rattle.argon2.specs.declared.version.Version.{Version}
 use Rattle.argon2.specs.declared.version.Version.TheVariants.{V0x13}
 use Rattle.argon2.specs.declared.context.Secret.{Secret}
 use Rattle.argon2.specs.declared.context.Argon2.{Argon2}
+use Rattle.argon2.specs.declared.context.Argon2.TheInside.{Inside}
 use Rattle.argon2.specs.declared.params.Params.{Params}
 use Rattle.argon2.specs.declared.params.short_bytes.ShortBytes.{ShortBytes}
 use Rattle.argon2.specs.Refusals.{max_len}
 use Rattle.argon2.specs.Rfc9106.{Context}
-use Rattle.argon2.specs.Settings.{AreValid, Parameters, Settings, algorithm_number, first_fault, version_number}
+use Rattle.argon2.specs.Settings.{AreValid, Parameters, Settings, Target, algorithm_number, first_fault, version_number}
 use Rattle.argon2_base.specs.ByteList.{list_bytes}
+use Rattle.argon2_base.specs.PhcText.{HasBytes}
 use Rattle.argon2_base.specs.declared.error.Error.{Error}
 use Rattle.argon2_base.specs.declared.error.Error.TheVariants.{SecretTooLong}
 
@@ -47,18 +49,32 @@ abbrev pub secret_bytes : Option Secret → List ℕ
 secret_bytes None = []
 secret_bytes (Some secret) = secret.bytes.now
 
--- the secret of an `Argon2`
-abbrev pub secret_of : Argon2 → List ℕ
-secret_of argon2 = secret_bytes argon2.secret
-
 -- an algorithm and a version with parameters
 abbrev pub settings_with : Algorithm → Version → Params → Settings
 settings_with algorithm version params =
     record { algorithm = algorithm; version = version; parameters = parameters_of params }
 
--- the algorithm, the version and the parameters of an `Argon2`
+-- what an `Argon2` of these fields makes hashes under
+abbrev pub target_inside : Inside → Target
+target_inside a = record { settings = settings_with a.algorithm a.version a.params; secret = secret_bytes a.secret }
+
+-- what an `Argon2` makes hashes under, its settings, and its secret
+abbrev pub target_of : Argon2 → Target
+target_of argon2 = argon2
+
 abbrev pub settings_of : Argon2 → Settings
-settings_of argon2 = settings_with argon2.algorithm argon2.version argon2.params
+settings_of argon2 = argon2.settings
+
+abbrev pub secret_of : Argon2 → List ℕ
+secret_of argon2 = argon2.secret
+
+-- what is true of each
+pub record IsSound (target : Target) : Type 0 where
+  pub valid : AreValid target.settings.parameters
+  pub m_cost : target.settings.parameters.m_cost < 2 ^ 32
+  pub t_cost : target.settings.parameters.t_cost < 2 ^ 32
+  pub keyid : HasBytes 0 8 target.settings.parameters.keyid
+  pub associated : HasBytes 0 32 target.settings.parameters.associated
 
 -- the parameters of an `Argon2`
 abbrev pub own_parameters : Argon2 → Parameters
@@ -85,9 +101,8 @@ abbrev pub context_under : Argon2 → List ℕ → Context
 context_under argon2 associated = record (context_of argon2) { associated = associated }
 
 -- it has these settings and this secret
-pub record IsWith (own : Settings) (key : List ℕ) (argon2 : Argon2) : Type 0 where
-  pub settings : settings_of argon2 ≡ own
-  pub secret : secret_of argon2 ≡ key
+abbrev pub IsWith : Settings → List ℕ → Argon2 → Type 0
+IsWith own key argon2 = argon2 ≡ record { settings = own; secret = key }
 
 -- hashing under settings and a secret, or the refusal of a secret of more than 4294967295 bytes
 abbrev pub IsKeyed : Settings → List ℕ → Result Argon2 Error → Type 0

@@ -97,3 +97,10 @@ pub record Settings : Type 0 where
   pub algorithm : Algorithm
   pub version : Version
   pub parameters : Parameters
+
+-- ---- what hashes are made under
+
+-- settings, and a secret, which is empty if there is none
+pub record Target : Type 0 where
+  pub settings : Settings
+  pub secret : List ℕ

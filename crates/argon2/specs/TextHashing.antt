@@ -10,19 +10,12 @@ use Rattle.argon2.specs.declared.algorithm.Algorithm.{Algorithm}
 use Rattle.argon2.specs.declared.context.Argon2.{Argon2}
 use Rattle.argon2.specs.declared.version.Version.{Version}
 use Rattle.argon2.specs.Settings.{AreValid, Parameters, Settings, algorithm_name, algorithm_named, version_number, version_numbered}
-use Rattle.argon2.specs.Argon2.{context_of, context_with, secret_of, settings_of}
+use Rattle.argon2.specs.Argon2.{context_of, context_with, settings_of}
+pub use Rattle.argon2.specs.Argon2.{target_of}
+pub use Rattle.argon2.specs.Settings.{Target}
 use Rattle.argon2.specs.Rfc9106.{tag_of}
 use Rattle.argon2.specs.ListedParameters.{unless_fault, list_of, result_and_then}
 use Rattle.argon2.specs.Refusals.{first_of, max_len}
-
--- what hashes are made under
-pub record Target : Type 0 where
-  pub settings : Settings
-  pub secret : List ℕ
-
--- what an `Argon2` makes hashes under
-abbrev pub target_of : Argon2 → Target
-target_of argon2 = record { settings = settings_of argon2; secret = secret_of argon2 }
 
 -- the length of a hash: the output length, or 32 if none is set
 abbrev pub tag_length : Settings → ℕ

@@ -10,6 +10,7 @@ use argon2_base::block::{Block, Words, Work};
 use argon2_base::error::{Error, Result};
 use std::alloc::Allocator;
 use std::fmt;
+use std::marker::Model;
 
 mod checks;
 mod fill;
@@ -63,11 +64,21 @@ pub struct Argon2<'key> {
     secret: Option<Secret<'key>>,
 }
 
+impl<'key> Model for Argon2<'key> {
+    ghost use Rattle.argon2.specs.Settings.{Target};
+
+    ghost Value = { Target };
+
+    ghost use Rattle.argon2.specs.Argon2.{target_inside};
+
+    ghost view = { target_inside };
+}
+
 impl<'key> Argon2<'key> {
     ghost use Rattle.std.specs.Prelude.{◌≡◌, ◌+◌, ◌^◌, ◌<◌, ◌≤◌, [], IfOk, IfErr, OnOk, OnErr, length, map, replicate};
     ghost use Rattle.argon2_base.specs.Block.{zero_block};
     ghost use Rattle.argon2_base.specs.declared.error.Error.TheVariants.{OutOfMemory};
-    ghost use Rattle.argon2.specs.Argon2.{context_of, context_under, own_parameters, secret_of, settings_of, settings_with, IsKeyed, IsWith, parameters_of};
+    ghost use Rattle.argon2.specs.Argon2.{context_of, context_under, own_parameters, secret_of, settings_of, settings_with, IsKeyed, IsSound, IsWith, parameters_of};
     ghost use Rattle.argon2.specs.Rfc9106.{IsValid, block_count, first_block, tag_of};
     ghost use Rattle.argon2.specs.Layout.{matrix_of};
     ghost use Rattle.argon2.specs.WatchedFilling.{AreReferencePlaces, mixing_calls, place_count};
@@ -127,7 +138,8 @@ impl<'key> Argon2<'key> {
 
     /// The parameters.
     pub fn params(&self) -> &Params
-        ensures { parameters_of result.now ≡ own_parameters self.now }
+        ensures value { parameters_of result.now ≡ own_parameters self.now }
+        ensures sound { IsSound self.now }
     {
         &self.params
     }
@@ -258,7 +270,7 @@ impl<'key> Argon2<'key> {
         if associated.len() > MAX_AD_LEN {
             return Err(Error::AdTooLong);
         }
-        self.check(out.len(), pwd, salt, self.params.block_count())?;
+        self.check(out.len(), pwd, salt, self.block_count())?;
         let mut memory = self.zeroed_blocks(alloc)?;
         let blocks = memory.as_mut_slice();
         self.hash(associated, pwd, salt, out, blocks, &mut Watch::nobody())
@@ -392,8 +404,15 @@ impl<'key> Argon2<'key> {
         ensures refused { IfErr result (λ e. e ≡ OutOfMemory) }
     {
         let mut blocks = Vec::new(alloc);
-        blocks.resize(self.params.block_count(), Block::new())?;
+        blocks.resize(self.block_count(), Block::new())?;
         Ok(blocks)
+    }
+
+    // How many blocks a hash fills.
+    fn block_count(&self) -> usize
+        ensures value { result ≡ block_count (context_of self.now) }
+    {
+        self.params.block_count()
     }
 
     // The secret's bytes.
@@ -429,8 +448,10 @@ impl<'key> Argon2<'key> {
         ensures value { result ≡ context_of self.now }
         ensures valid { IsValid (context_of self.now) }
         ensures associated { length (context_of self.now).associated ≤ 32 }
+        ensures sound { IsSound self.now }
     {
-        Instance::new(self, self.params.data())
+        let params = self.params();
+        Instance::new(self, params.data())
     }
 }
 

@@ -2,7 +2,7 @@
 use Rattle.argon2.proofs.Imports.{◌≡◌, ℕ, ◌^◌, ◌<◌, ◌≤◌, List, length, Option, Some, None, Result, Ok, refl, sym, ap, arith, IsNone, nat_tests, length-take, IsBytes, list_bytes, HasBytes}
 use Rattle.argon2.proofs.Imports.{IsPhc, Pair, Phc, phc_text, Accepts, AcceptsBy, shown_settings, Argon2, context_with, settings_of, Parameters, algorithm_name, first_fault, version_number}
 use Rattle.argon2.proofs.Imports.{tag_of, list_of, params_of, Target, IsTarget, target_of, tag_length, with_tag_length, hash_value, Error, HashError}
-use Rattle.argon2_base.specs.declared.byte_list.ByteList.{ByteList}
+use Rattle.argon2.specs.Argon2.{IsSound}
 use Rattle.argon2.proofs.params_lemmas.ListedLemmas.{listed_good}
 use Rattle.argon2.proofs.params_lemmas.Named.{algorithm_named-name, version_numbered-number}
 use Rattle.argon2.proofs.params_lemmas.ReadAgain.{read_again}
@@ -11,18 +11,14 @@ use Rattle.argon2.proofs.password_hash_lemmas.TagBytes.{tag_bytes}
 none_of : {X : Type 0} (o : Option X) → IsNone o → o ≡ None
 none_of o h = grind arith
 
--- a list has no more bytes than its capacity
-list_fits : (n : ℕ) (list : ByteList n) → length (list_bytes list) ≤ n
-list_fits n list = omega (arith, length-take list.len list.bytes, list.fits)
-
--- an `Argon2` is a target if its hashes fit into texts
-pub is_target : (argon2 : Argon2) → tag_length (settings_of argon2) ≤ 64 → IsTarget (target_of argon2)
-is_target argon2 fits = record {
-  valid = argon2.params.valid;
-  m_cost = argon2.params.memory;
-  t_cost = argon2.params.passes;
-  keyid = (argon2.params.keyid.are_bytes, omega arith, list_fits 8 argon2.params.keyid.bytes);
-  associated = (argon2.params.associated.are_bytes, omega arith, list_fits 32 argon2.params.associated.bytes);
+-- settings are a target if their hashes fit into texts
+pub is_target : (target : Target) → IsSound target → tag_length target.settings ≤ 64 → IsTarget target
+is_target target is fits = record {
+  valid = is.valid;
+  m_cost = is.m_cost;
+  t_cost = is.t_cost;
+  keyid = is.keyid;
+  associated = is.associated;
   tag_length = fits;
 }
 

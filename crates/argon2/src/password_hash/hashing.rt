@@ -6,7 +6,7 @@ ghost use Rattle.argon2_base.specs.PhcFields.{phc_of};
 ghost use Rattle.argon2_base.specs.PhcText.{phc_text};
 ghost use Rattle.argon2.specs.TextHashing.{IsAskedAnswer, IsHashAnswer, IsTagAnswer, algorithm_or_default, settings_or_default, tag_length, target_of, version_or_default};
 ghost use Rattle.argon2.specs.TextHashing.{with_tag_length};
-ghost use Rattle.argon2.specs.Argon2.{parameters_of, secret_of, settings_of};
+ghost use Rattle.argon2.specs.Argon2.{IsSound, parameters_of, secret_of, settings_of};
 ghost use Rattle.argon2.specs.StoredTexts.{Accepts, shown_settings};
 
 use super::{CustomizedPasswordHasher, Error, PasswordHasher, Result};
@@ -21,7 +21,8 @@ use std::alloc::Global;
 impl Argon2<'_> {
     // How many bytes a hash has.
     fn tag_len(&self) -> usize
-        ensures { result ≡ tag_length (settings_of self.now) }
+        ensures value { result ≡ tag_length (settings_of self.now) }
+        ensures sound { IsSound self.now }
     {
         self.params()
             .output_len()

@@ -28,7 +28,6 @@ fails text password e Output answer of = absurd of
 
 pub returns-in_err-verify_password : goal.returns-in_err-verify_password
 returns-in_err-verify_password c =
-    let none = c.default.ensures.secret in
-    let why = rw none at c.in_err-verify_password.ensures.answer in
+    let why = rw c.default.ensures at c.in_err-verify_password.ensures.answer in
     let failed = err_from_is_err_and c.from_residual.result c.from_residual.ensures.1 in
     rw failed.1 (fails c.args.text c.args.password.now _ failed.0 why failed.2)

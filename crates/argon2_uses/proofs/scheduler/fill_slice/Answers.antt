@@ -12,7 +12,7 @@ pub loop-lane-init : goal.loop-lane-init
 loop-lane-init c =
     let ctx = context_of c.args.argon2.now in
     let columns = c.lane_length-segment.ensures
-    ∙ ap (λ v. lane_length_for v.m_cost v.p_cost) c.params-params.ensures in
+    ∙ ap (λ v. lane_length_for v.m_cost v.p_cost) c.params-params.ensures.value in
     record {
       turns = sym (run_begin ctx c.args.pass c.args.slice c.loop-index.index (blocks_of ctx c.loop-index.memory) (omega arith))
           ∙ c.loop-index.invariant.rounds;
@@ -26,8 +26,8 @@ step_block-requires-clause-step c =
     let i = c.loop-index.index in
     let sizes = sizes-valid ctx c.requires.valid in
     let columns = c.lane_length-segment.ensures
-    ∙ ap (λ v. lane_length_for v.m_cost v.p_cost) c.params-params.ensures in
-    let lanes = c.p_cost-lane-end.ensures.value ∙ ap (λ v. v.p_cost) c.params-params.ensures in
+    ∙ ap (λ v. lane_length_for v.m_cost v.p_cost) c.params-params.ensures.value in
+    let lanes = c.p_cost-lane-end.ensures.value ∙ ap (λ v. v.p_cost) c.params-params.ensures.value in
     let quarter : c.lane_length-segment.result / 4 ≡ s = omega arith in
     let product = ap (λ x. c.args.slice * x) quarter in
     let below = column_below c.args.slice s i (omega arith) (omega arith) in
@@ -54,8 +54,8 @@ loop-lane-preserved c =
     let lane = c.loop-lane.lane in
     let memory = blocks_of ctx c.loop-lane.memory in
     let columns = c.lane_length-segment.ensures
-    ∙ ap (λ v. lane_length_for v.m_cost v.p_cost) c.params-params.ensures in
-    let lanes = c.p_cost-lane-end.ensures.value ∙ ap (λ v. v.p_cost) c.params-params.ensures in
+    ∙ ap (λ v. lane_length_for v.m_cost v.p_cost) c.params-params.ensures.value in
+    let lanes = c.p_cost-lane-end.ensures.value ∙ ap (λ v. v.p_cost) c.params-params.ensures.value in
     let quarter : c.lane_length-segment.result / 4 ≡ s = omega arith in
     let stepped = c.step_block.ensures.step ∙ ap (λ x. step ctx memory c.args.pass lane (c.args.slice * x + i)) quarter in
     record {
@@ -70,7 +70,7 @@ loop-index-preserved c =
     let ctx = context_of c.args.argon2.now in
     let n = segment_length ctx - (c.loop-index.index + 1) in
     let memory = blocks_of ctx c.loop-lane.memory in
-    let lanes = c.p_cost-lane-end.ensures.value ∙ ap (λ v. v.p_cost) c.params-params.ensures in
+    let lanes = c.p_cost-lane-end.ensures.value ∙ ap (λ v. v.p_cost) c.params-params.ensures.value in
     let all : ctx.p_cost ≡ c.loop-lane.lane = omega arith in
     record {
       rounds = sym (run_end ctx c.args.pass c.args.slice n memory)
@@ -82,6 +82,6 @@ pub returns-clause-blocks : goal.returns-clause-blocks
 returns-clause-blocks c =
     let ctx = context_of c.args.argon2.now in
     let columns = c.lane_length-segment.ensures
-    ∙ ap (λ v. lane_length_for v.m_cost v.p_cost) c.params-params.ensures in
+    ∙ ap (λ v. lane_length_for v.m_cost v.p_cost) c.params-params.ensures.value in
     sym (run_no_round ctx c.args.pass c.args.slice c.loop-index.index (blocks_of ctx c.loop-index.memory) (omega arith))
     ∙ c.loop-index.invariant.rounds

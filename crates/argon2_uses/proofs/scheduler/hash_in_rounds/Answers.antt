@@ -47,7 +47,7 @@ returns-clause-tag c =
     let ctx = context_of c.args.argon2.now in
     let begun = blocks_of ctx c.begin_fill.new.memory in
     let n = length c.args.out.now in
-    let passes = c.t_cost-pass-end.ensures.value ∙ ap (λ v. v.t_cost) c.params.ensures in
+    let passes = c.t_cost-pass-end.ensures.value ∙ ap (λ v. v.t_cost) c.params.ensures.value in
     let all : c.loop-pass.pass ≡ ctx.t_cost = omega arith in
     c.finish_fill.ensures
     ∙ ap (λ memory. long_hash n (bytes_of (last_column ctx memory)))

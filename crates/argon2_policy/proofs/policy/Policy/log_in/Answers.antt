@@ -19,3 +19,9 @@ returns-clause-accepted g c =
       (v, says, admits_found (policy_value c.args.self.now) c.args.password.now v c.in_ok-admit.field-0 within found),
       c.in-Ok.ensures.accepted,
     )
+
+pub returns-in_default-hash_password-clause-accepted :
+    goal.returns-in_default-hash_password-clause-accepted
+returns-in_default-hash_password-clause-accepted g c =
+    let (v, says, within, found) = c.in_ok-admit.ensures.found in
+    ((v, says, admits_found (policy_value c.args.self.now) c.args.password.now v c.in_ok-admit.field-0 within found), tt)

@@ -17,11 +17,11 @@ returns c =
     let is = is_made target password salt (ident_text c.ident.result) c.from.result c.in_ok-try_from.field-0
     (parameters_of c.params.result.now) c.in_ok-salt.salt c.as_bytes.result.now c.in_ok-hash.hash
     (c.ident.ensures ∙ ap algorithm_name c.algorithm.ensures) (c.from.ensures ∙ ap version_number c.version.ensures)
-    c.in_ok-try_from.ensures.0 c.params.ensures c.in_ok-salt.ensures.value c.as_bytes.ensures.value
+    c.in_ok-try_from.ensures.0 c.params.ensures.value c.in_ok-salt.ensures.value c.as_bytes.ensures.value
     c.in_ok-hash.ensures.1 in
     let fits : tag_length (settings_of c.args.self.now) ≤ 64 =
-    omega (arith, c.if-tag_len-gt-MAX_LENGTH.false, c.tag_len.ensures) in
-    let target_fits = is_target c.args.self.now fits in
+    omega (arith, c.if-tag_len-gt-MAX_LENGTH.false, c.tag_len.ensures.value) in
+    let target_fits = is_target c.args.self.now c.params.ensures.sound fits in
     let lengths = c.in_ok-salt.ensures.when in
     let bytes = rw c.in_ok-salt.ensures.value at c.as_bytes.ensures.bytes in
     record {
