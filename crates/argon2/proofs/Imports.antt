@@ -25,10 +25,10 @@ pub use Rattle.std.specs.Result.{IsErr, IsErrAnd, result_ok}
 pub use Rattle.argon2.specs.Argon2.{context_of, context_under, context_with, own_bytes, own_parameters, parameters_of, secret_of, settings_of}
 pub use Rattle.argon2.specs.Hashing.{ChecksFirst, IsBegun, KeepsOtherColumns, KeepsRest, blocks_of, refusal_of}
 pub use Rattle.argon2.specs.Laws.{AreAlike, AreSchedules, Begins, IsRecurrence}
-pub use Rattle.argon2.specs.Layout.{IsSize, MayReferTo, Memory, Sizes, place_of}
+pub use Rattle.argon2.specs.Layout.{IsSize, MayReferTo, Memory, HasSizes, place_of}
 unfoldable pub use Rattle.argon2.specs.Layout.{addresses_at, matrix, matrix_of, reference_places}
 pub use Rattle.argon2.specs.ListedParameters.{Items, bytes_item, found_of, item_fault, item_taken, items_fault, items_of, items_over, items_read, list_of, parameter_items, params_of}
-pub use Rattle.argon2.specs.Login.{AddStep, Event, LoginAnswer, adding, logging_in, store_of, target_value}
+pub use Rattle.argon2.specs.Login.{IsAddStep, Event, IsLoginAnswer, adding, logging_in, store_of, target_value}
 pub use Rattle.argon2.specs.NamedTexts.{IsCurrent, KeepsOthers, Leaves, Store, named_values, newest, values_of, with_texts}
 pub use Rattle.argon2.specs.Rfc9106.{Blocks, Context, FirstColumns, IsValid, Reference, address_counter, block_after, block_count, block_count_for, lane_length, number, segment_length}
 pub use Rattle.argon2.specs.Rfc9106.{with_length}
@@ -37,11 +37,11 @@ unfoldable pub use Rattle.argon2.specs.Rfc9106.{made_block, permitted, previous,
 unfoldable pub use Rattle.argon2.specs.Rfc9106.{xor_lanes}
 pub use Rattle.argon2.specs.SegmentSteps.{IsStepAt, column_of}
 pub use Rattle.argon2.specs.Segments.{AreParts, BeginsLanes, BeginsSlices, FillsSegment, IsFilledBySegments, IsPlaceFor, last_of_slice, segment_in, slice_length, slices_after, slices_before}
-pub use Rattle.argon2.specs.Settings.{IsReadBy, Parameters, Settings, algorithm_name, algorithm_named, cost_parameters, first_fault, version_number, version_numbered}
+pub use Rattle.argon2.specs.Settings.{IsReadBy, Parameters, SettingsValue, algorithm_name, algorithm_named, cost_parameters, first_fault, version_number, version_numbered}
 pub use Rattle.argon2.specs.Steps.{IsSchedule, IsStep, last_column, previous_place, turn_count, turns}
 unfoldable pub use Rattle.argon2.specs.Steps.{in_memory, reference_place, run, run_passes, run_slices, step}
 pub use Rattle.argon2.specs.StoredTexts.{Accepts, AcceptsBy, IsVerifyAnswer, is_tag, result_and_then, settings_value, shown_settings, stored_of, verify_outcome}
-pub use Rattle.argon2.specs.TextHashing.{IsHashAnswer, IsTarget, Target, algorithm_or_default, hash_outcome, hash_value, tag_length, target_of, with_tag_length}
+pub use Rattle.argon2.specs.TextHashing.{IsHashAnswer, IsTarget, TargetValue, algorithm_or_default, hash_outcome, hash_value, tag_length, target_of, with_tag_length}
 pub use Rattle.argon2.specs.WatchedFilling.{Fills, HasBlocksUpTo, HasPositionsUpTo, IsFilledFrom, IsFilledUpTo, Watches, columns_before, in_order, position_index}
 unfoldable pub use Rattle.argon2.specs.WatchedFilling.{address_mixings, independent_segments, mixing_calls, segment_calls, slices_calls}
 pub use Rattle.argon2.specs.declared.algorithm.Algorithm.{Algorithm}

@@ -11,7 +11,7 @@ use Rattle.argon2.specs.declared.params.Params.{Params}
 use Rattle.argon2.specs.declared.params.short_bytes.ShortBytes.{ShortBytes}
 use Rattle.argon2.specs.Refusals.{max_len}
 use Rattle.argon2.specs.Rfc9106.{Context}
-use Rattle.argon2.specs.Settings.{AreValid, Parameters, Settings, Target, algorithm_number, first_fault, version_number}
+use Rattle.argon2.specs.Settings.{AreValid, Parameters, SettingsValue, TargetValue, algorithm_number, first_fault, version_number}
 use Rattle.argon2_base.specs.ByteList.{list_bytes}
 use Rattle.argon2_base.specs.PhcText.{HasBytes}
 use Rattle.argon2_base.specs.declared.error.Error.{Error}
@@ -50,26 +50,26 @@ secret_bytes None = []
 secret_bytes (Some secret) = secret.bytes.now
 
 -- an algorithm and a version with parameters
-abbrev pub settings_with : Algorithm → Version → Params → Settings
+abbrev pub settings_with : Algorithm → Version → Params → SettingsValue
 settings_with algorithm version params =
     record { algorithm = algorithm; version = version; parameters = parameters_of params }
 
 -- what an `Argon2` of these fields makes hashes under
-abbrev pub target_inside : Inside → Target
+abbrev pub target_inside : Inside → TargetValue
 target_inside a = record { settings = settings_with a.algorithm a.version a.params; secret = secret_bytes a.secret }
 
 -- what an `Argon2` makes hashes under, its settings, and its secret
-abbrev pub target_of : Argon2 → Target
+abbrev pub target_of : Argon2 → TargetValue
 target_of argon2 = argon2
 
-abbrev pub settings_of : Argon2 → Settings
+abbrev pub settings_of : Argon2 → SettingsValue
 settings_of argon2 = argon2.settings
 
 abbrev pub secret_of : Argon2 → List ℕ
 secret_of argon2 = argon2.secret
 
 -- what is true of each
-pub record IsSound (target : Target) : Type 0 where
+pub record IsSound (target : TargetValue) : Type 0 where
   pub valid : AreValid target.settings.parameters
   pub m_cost : target.settings.parameters.m_cost < 2 ^ 32
   pub t_cost : target.settings.parameters.t_cost < 2 ^ 32
@@ -81,7 +81,7 @@ abbrev pub own_parameters : Argon2 → Parameters
 own_parameters argon2 = (settings_of argon2).parameters
 
 -- the inputs of the standard that settings and a secret make
-abbrev pub context_with : Settings → List ℕ → Context
+abbrev pub context_with : SettingsValue → List ℕ → Context
 context_with settings secret = record {
   algorithm = algorithm_number settings.algorithm;
   version = version_number settings.version;
@@ -101,16 +101,16 @@ abbrev pub context_under : Argon2 → List ℕ → Context
 context_under argon2 associated = record (context_of argon2) { associated = associated }
 
 -- it has these settings and this secret
-abbrev pub IsWith : Settings → List ℕ → Argon2 → Type 0
+abbrev pub IsWith : SettingsValue → List ℕ → Argon2 → Type 0
 IsWith own key argon2 = argon2 ≡ record { settings = own; secret = key }
 
 -- hashing under settings and a secret, or the refusal of a secret of more than 4294967295 bytes
-abbrev pub IsKeyed : Settings → List ℕ → Result Argon2 Error → Type 0
+abbrev pub IsKeyed : SettingsValue → List ℕ → Result Argon2 Error → Type 0
 IsKeyed own key (Ok argon2) = (length key ≤ max_len) × IsWith own key argon2
 IsKeyed own key (Err e) = (e ≡ SecretTooLong) × (max_len < length key)
 
 -- Argon2id of version 0x13 with these parameters
-abbrev pub argon2id_with : Parameters → Settings
+abbrev pub argon2id_with : Parameters → SettingsValue
 argon2id_with parameters = record { algorithm = Argon2id; version = V0x13; parameters = parameters }
 
 -- hashing with these parameters, which are valid, and no secret, or their first fault

@@ -2,7 +2,7 @@
 use Rattle.std.specs.Prelude.{◌≡◌, ◌⊎◌, ℕ, ◌≤◌, ◌*◌, List, codes, Result, Ok, Err, IsErrAnd}
 use Rattle.std.specs.Result.{result_map_both}
 use Rattle.argon2_base.specs.Error.{fault_of, hash_error_text}
-use Rattle.argon2_base.specs.PhcText.{Phc, PhcText}
+use Rattle.argon2_base.specs.PhcText.{Phc, IsPhcText}
 use Rattle.argon2_base.specs.declared.error.password_hash.Error.{Error}
 use Rattle.argon2_base.specs.declared.error.password_hash.Error.TheVariants.{EncodingInvalid, OutOfMemory}
 use Rattle.argon2.specs.declared.bound.Bound.{Bound}
@@ -32,20 +32,20 @@ AsksBlocksWithin bound v blocks = (asks : AsksWithin bound v)
     × (blocks ≡ block_count_for asks.parameters.m_cost asks.parameters.p_cost)
 
 -- why a value is not admitted
-abbrev pub HashRefusal : Bound → Phc → BoundError → Type 0
-HashRefusal bound v TooExpensive =
+abbrev pub IsHashRefusal : Bound → Phc → BoundError → Type 0
+IsHashRefusal bound v TooExpensive =
     (parameters : Parameters) × (asked_of v ≡ Ok parameters) × (IsWithin bound parameters → ⊥)
-HashRefusal bound v (Refused e) = asked_of v ≡ Err (fault_of e)
+IsHashRefusal bound v (Refused e) = asked_of v ≡ Err (fault_of e)
 
 -- why nothing is read that a value is verified by: it is not admitted, or something is missing or unknown
-abbrev pub StoredRefusal : Bound → Phc → BoundError → Type 0
-StoredRefusal bound v TooExpensive = HashRefusal bound v TooExpensive
-StoredRefusal bound v (Refused e) =
-    HashRefusal bound v (Refused e) ⊎ (AsksWithin bound v × (stored_of v ≡ Err (fault_of e)))
+abbrev pub IsStoredRefusal : Bound → Phc → BoundError → Type 0
+IsStoredRefusal bound v TooExpensive = IsHashRefusal bound v TooExpensive
+IsStoredRefusal bound v (Refused e) =
+    IsHashRefusal bound v (Refused e) ⊎ (AsksWithin bound v × (stored_of v ≡ Err (fault_of e)))
 
 -- why a text is not: its value is not, or it is no value's
-abbrev pub BoundRefusal : Bound → List ℕ → BoundError → Type 0
-BoundRefusal bound text error = ((v : Phc) → PhcText text v → HashRefusal bound v error)
+abbrev pub IsBoundRefusal : Bound → List ℕ → BoundError → Type 0
+IsBoundRefusal bound text error = ((v : Phc) → IsPhcText text v → IsHashRefusal bound v error)
     × (IsText text ⊎ (error ≡ Refused EncodingInvalid))
 
 -- ---- verifying
@@ -53,20 +53,20 @@ BoundRefusal bound text error = ((v : Phc) → PhcText text v → HashRefusal bo
 -- what verifying within a bound answers: why the text is not admitted, or what verifying its value does, with its
 -- error as a bound's
 abbrev pub IsBoundAnswer : Bound → List ℕ → List ℕ → List ℕ → Result (Unit {0}) BoundError → Type 0
-IsBoundAnswer bound secret password text r = IsErrAnd r (BoundRefusal bound text)
-    ⊎ ((v : Phc) × PhcText text v × AsksWithin bound v
+IsBoundAnswer bound secret password text r = IsErrAnd r (IsBoundRefusal bound text)
+    ⊎ ((v : Phc) × IsPhcText text v × AsksWithin bound v
     × (answer : Result (Unit {0}) Error) × IsVerifyAnswer secret password v answer
     × (r ≡ result_map_both (λ x. x) Refused answer))
 
 -- what it says by Ok
 abbrev pub AcceptsWithin : Bound → List ℕ → List ℕ → List ℕ → Type 0
 AcceptsWithin bound secret password text =
-    (v : Phc) × PhcText text v × AsksWithin bound v × AcceptsBy secret password v
+    (v : Phc) × IsPhcText text v × AsksWithin bound v × AcceptsBy secret password v
 
 -- why it refuses: the text asks for more, or memory was refused, or the text does not accept
-abbrev pub VerifyRefusal : Bound → List ℕ → List ℕ → List ℕ → BoundError → Type 0
-VerifyRefusal bound secret password text TooExpensive = BoundRefusal bound text TooExpensive
-VerifyRefusal bound secret password text (Refused e) =
+abbrev pub IsVerifyRefusal : Bound → List ℕ → List ℕ → List ℕ → BoundError → Type 0
+IsVerifyRefusal bound secret password text TooExpensive = IsBoundRefusal bound text TooExpensive
+IsVerifyRefusal bound secret password text (Refused e) =
     (e ≡ OutOfMemory) ⊎ (Accepts secret password text → ⊥)
 
 -- ---- texts

@@ -5,7 +5,7 @@ use Rattle.argon2_base.specs.declared.error.Error.TheVariants.{OutOfMemory}
 use Rattle.argon2.specs.declared.context.Argon2.{Argon2}
 use Rattle.argon2.specs.Argon2.{context_of, own_parameters}
 use Rattle.argon2.specs.Rfc9106.{Context, IsValid, block_count, first_block, lane_length, tag_of}
-use Rattle.argon2.specs.Layout.{Memory, Sizes, matrix_of}
+use Rattle.argon2.specs.Layout.{Memory, HasSizes, matrix_of}
 use Rattle.argon2.specs.WatchedFilling.{AreReferencePlaces, place_count}
 use Rattle.argon2.specs.Laws.{Begins}
 use Rattle.argon2.specs.Refusals.{answer_unless, first_of, output_faults, input_faults, memory_faults}
@@ -63,7 +63,7 @@ KeepsOtherColumns ctx old new =
 -- holds the references; the blocks behind are unchanged.
 pub record FillsFront (ctx : Context) (password salt : List ℕ) (n : ℕ) (old new : Memory) (places places' : List ℕ) : Type 0
   where
-    pub sizes : Sizes ctx
+    pub sizes : HasSizes ctx
     pub matrix : blocks_of ctx new ≡ matrix_of ctx password salt n
     pub positions : length places ≡ place_count ctx →
         AreReferencePlaces ctx (first_block ctx password salt n) places places'

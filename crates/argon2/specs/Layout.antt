@@ -6,7 +6,7 @@ use Rattle.argon2.specs.Rfc9106.{Context, FirstColumns, Reference, address_block
 -- ---- sizes
 
 -- what the costs of a valid context amount to
-pub record Sizes (ctx : Context) : Type 0 where
+pub record HasSizes (ctx : Context) : Type 0 where
   pub some_lane : 0 < ctx.p_cost
   pub some_pass : 0 < ctx.t_cost
   pub lanes_below : ctx.p_cost < 16777216
@@ -18,7 +18,7 @@ pub record Sizes (ctx : Context) : Type 0 where
 -- one of the sizes of such a context
 pub record IsSize (of : Context → ℕ) (ctx : Context) (n : ℕ) : Type 0 where
   pub value : n ≡ of ctx
-  pub sizes : Sizes ctx
+  pub sizes : HasSizes ctx
 
 -- ---- places
 

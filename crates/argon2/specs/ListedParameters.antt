@@ -5,7 +5,7 @@ use Rattle.std.specs.Option.{option_or, option_and_then, option_map}
 use Rattle.std.specs.Str.{bytes_eq}
 use Rattle.argon2_base.specs.Texts.{number_of, strict_base64}
 pub use Rattle.argon2_base.specs.Texts.{short_bytes}
-use Rattle.argon2_base.specs.PhcText.{Pair, ParamsText, Phc, value_of}
+use Rattle.argon2_base.specs.PhcText.{Pair, IsParamsText, Phc, value_of}
 use Rattle.argon2_base.specs.declared.error.password_hash.Error.{Error as HashError}
 use Rattle.argon2_base.specs.Error.{Fault, as_fault, bad_param, bad_params, outcome_of}
 use Rattle.argon2.specs.Settings.{Parameters, first_fault, cost_parameters}
@@ -146,9 +146,9 @@ asked_of v = params_of (option_map length v.hash) v.params
 -- the answer for a text: that of its list, or `ParamsInvalid` if it is no list's
 abbrev pub IsTextAnswer : List ℕ → Result Params HashError → Type 0
 IsTextAnswer text r =
-    ((ps : List Pair) → ParamsText text ps → outcome_of parameters_of r ≡ params_of None ps)
-    × (((ps : List Pair) × ParamsText text ps)
-    ⊎ (((ps : List Pair) → ParamsText text ps → ⊥) × (outcome_of parameters_of r ≡ Err bad_params)))
+    ((ps : List Pair) → IsParamsText text ps → outcome_of parameters_of r ≡ params_of None ps)
+    × (((ps : List Pair) × IsParamsText text ps)
+    ⊎ (((ps : List Pair) → IsParamsText text ps → ⊥) × (outcome_of parameters_of r ≡ Err bad_params)))
 
 -- the list of parameters, which is read as the same, with no length of output
 abbrev pub IsListOf : Parameters → Result (List Pair) HashError → Type 0

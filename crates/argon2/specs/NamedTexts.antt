@@ -5,14 +5,14 @@ use Rattle.std.specs.Cmp.Lexicographic.{slice_cmp}
 use Rattle.std.specs.FinMap.{FinMap, from_entries, get, insert}
 use Rattle.std.specs.Option.{option_or}
 use Rattle.std.specs.Ordering.{nat_cmp}
-use Rattle.rand_core.specs.Stream.{Stream, fill_bytes}
+use Rattle.rand_core.specs.Stream.{Stream}
 use Rattle.argon2_base.specs.PhcFields.{phc_of}
-use Rattle.argon2_base.specs.PhcText.{Phc, PhcText}
+use Rattle.argon2_base.specs.PhcText.{Phc, IsPhcText}
 use Rattle.argon2_base.specs.declared.phc.hash.PasswordHash.{PasswordHash}
 use Rattle.argon2.specs.declared.login.answers.Accepted.{Accepted}
 use Rattle.argon2.specs.declared.login.answers.Accepted.TheVariants.{Current, Kept, Rehashed}
 use Rattle.argon2.specs.declared.login.answers.LoggedIn.{LoggedIn}
-use Rattle.argon2.specs.TextHashing.{IsFresh, Target, with_tag_length}
+use Rattle.argon2.specs.TextHashing.{IsFresh, TargetValue, after_salt, with_tag_length}
 use Rattle.argon2.specs.StoredTexts.{shown_settings}
 
 -- ---- names with texts
@@ -47,14 +47,14 @@ newest of (event ∷ older) = option_or (of event) (newest of older)
 
 -- the text is one of the grammar
 abbrev pub IsText : List ℕ → Type 0
-IsText text = (v : Phc) × PhcText text v
+IsText text = (v : Phc) × IsPhcText text v
 
 -- the text shows the target's settings, with the length of the target's hashes
-abbrev pub IsCurrent : Target → Phc → Type 0
+abbrev pub IsCurrent : TargetValue → Phc → Type 0
 IsCurrent target v = shown_settings v ≡ Ok (with_tag_length target.settings)
 
 -- what an accepted login makes of a value
-abbrev pub Leaves : Target → List ℕ → List ℕ → Phc → Accepted → Phc → Type 0
+abbrev pub Leaves : TargetValue → List ℕ → List ℕ → Phc → Accepted → Phc → Type 0
 Leaves target password drawn v Current w = IsCurrent target v × (w ≡ v)
 Leaves target password drawn v Rehashed w = ¬ (IsCurrent target v) × IsFresh target password drawn w
 Leaves target password drawn v Kept w = ¬ (IsCurrent target v) × (w ≡ v)
@@ -71,6 +71,6 @@ accepted_by (Err e) = Err e
 
 -- what the generator has left: a text is made anew of 16 bytes, even if it is not kept
 abbrev pub stream_after : {E : Type 0} → Result Accepted E → Stream → Stream
-stream_after (Ok Rehashed) stream = (fill_bytes 16 stream).1
-stream_after (Ok Kept) stream = (fill_bytes 16 stream).1
+stream_after (Ok Rehashed) stream = after_salt stream
+stream_after (Ok Kept) stream = after_salt stream
 stream_after _ stream = stream

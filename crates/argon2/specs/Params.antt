@@ -35,11 +35,6 @@ IsOfText view longest text (Err e) = IsBase64Fault longest text e
 
 -- ---- parameters
 
--- one of the settings of parameters, which are valid
-pub record IsSetting {X : Type 0} (of : Parameters → X) (params : Params) (x : X) : Type 0 where
-  pub value : x ≡ of (parameters_of params)
-  pub valid : AreValid (parameters_of params)
-
 -- these parameters, which are valid, or their first fault
 abbrev pub IsParamsOf : Parameters → Result Params Error → Type 0
 IsParamsOf v (Ok params) = AreValid v × (parameters_of params ≡ v)

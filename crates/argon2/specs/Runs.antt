@@ -2,18 +2,18 @@
 use Rattle.std.specs.Prelude.{◌≡◌, ℕ, List, [], ◌∷◌, if◌then◌else◌, Option, Some, None, Ok}
 use Rattle.std.specs.Str.{bytes_eq}
 use Rattle.std.specs.FinMap.{empty}
-use Rattle.argon2_base.specs.PhcText.{Phc, PhcText}
+use Rattle.argon2_base.specs.PhcText.{Phc, IsPhcText}
 use Rattle.argon2.specs.declared.login.answers.Accepted.{Accepted}
 use Rattle.argon2.specs.declared.login.answers.Accepted.TheVariants.{Rehashed}
-use Rattle.argon2.specs.Login.{Event, adding, logging_in, LoginStep}
+use Rattle.argon2.specs.Login.{Event, adding, logging_in, IsLoginStep}
 use Rattle.argon2.specs.NamedTexts.{Store}
-use Rattle.argon2.specs.TextHashing.{Target, hash_value}
+use Rattle.argon2.specs.TextHashing.{TargetValue, hash_value}
 
 -- the store is what these calls, the newest first, made of the empty one
-abbrev pub Run : Target → List Event → Store → Type 0
-Run target [] store = store ≡ empty
-Run target (event ∷ older) store =
-    (before : Store) × Run target older before × LoginStep target before event store
+abbrev pub IsRun : TargetValue → List Event → Store → Type 0
+IsRun target [] store = store ≡ empty
+IsRun target (event ∷ older) store =
+    (before : Store) × IsRun target older before × IsLoginStep target before event store
 
 -- ---- where a name's text is from
 
@@ -29,9 +29,9 @@ source name (logging_in n given drawn (Ok Rehashed)) =
 source name _ = None
 
 -- the value comes from there
-abbrev pub IsFrom : Target → Option Source → Option Phc → Type 0
+abbrev pub IsFrom : TargetValue → Option Source → Option Phc → Type 0
 IsFrom target None None = Unit {0}
-IsFrom target (Some (text added)) (Some v) = PhcText added v
+IsFrom target (Some (text added)) (Some v) = IsPhcText added v
 IsFrom target (Some (password given drawn)) (Some v) = v ≡ hash_value target given drawn
 IsFrom target _ _ = ⊥
 

@@ -1,7 +1,7 @@
 -- The memory slice after slice, in each slice lane after lane, and the parts of it on which a segment is filled.
 use Rattle.std.specs.Prelude.{◌≡◌, ◌≢◌, ◌⊎◌, ℕ, suc, ◌+◌, ◌-◌, ◌*◌, ◌/◌, ◌<◌, ◌≤◌, List, [], drop, length, slice_index_or, take}
 use Rattle.argon2.specs.Rfc9106.{Context, FirstColumns, block_of, lane_length, segment_length, xor_lanes}
-use Rattle.argon2.specs.Layout.{Memory, Sizes}
+use Rattle.argon2.specs.Layout.{Memory, HasSizes}
 use Rattle.argon2.specs.WatchedFilling.{HasBlocksUpTo, columns_before}
 
 -- the blocks of a slice
@@ -41,7 +41,7 @@ pub record IsPlaceFor (ctx : Context) (lane column other place : ℕ) : Type 0 w
 
 -- costs that are not refused, columns 0 and 1 of each lane of so many blocks, and all other blocks as before
 pub record BeginsLanes (ctx : Context) (width : ℕ) (first : FirstColumns) (old new : Memory) : Type 0 where
-  pub sizes : Sizes ctx
+  pub sizes : HasSizes ctx
   pub size : length new ≡ length old
   pub columns : (lane column : ℕ) → lane < ctx.p_cost → column < 2 →
       slice_index_or new (lane * width + column) [] ≡ first lane column

@@ -93,7 +93,7 @@ default_parameters = cost_parameters 19456 2 1 None
 
 -- ---- settings
 
-pub record Settings : Type 0 where
+pub record SettingsValue : Type 0 where
   pub algorithm : Algorithm
   pub version : Version
   pub parameters : Parameters
@@ -101,6 +101,6 @@ pub record Settings : Type 0 where
 -- ---- what hashes are made under
 
 -- settings, and a secret, which is empty if there is none
-pub record Target : Type 0 where
-  pub settings : Settings
+pub record TargetValue : Type 0 where
+  pub settings : SettingsValue
   pub secret : List ℕ

@@ -4,9 +4,9 @@
 
 ghost use Rattle.std.specs.Prelude.{◌≡◌, ◌↔◌, Some, Ok, Err, IsTrue, IfOk, IfErr, MatchResult};
 ghost use Rattle.argon2_base.specs.PhcFields.{phc_of};
-ghost use Rattle.argon2_base.specs.PhcText.{Phc, PhcText};
+ghost use Rattle.argon2_base.specs.PhcText.{Phc, IsPhcText};
 ghost use Rattle.argon2.specs.Argon2.{parameters_of, secret_of};
-ghost use Rattle.argon2.specs.Bound.{AcceptsWithin, AsksBlocksWithin, AsksWithin, BoundRefusal, HashRefusal, IsBoundAnswer, IsWithin, StoredRefusal, VerifyRefusal, bound_error_text};
+ghost use Rattle.argon2.specs.Bound.{AcceptsWithin, AsksBlocksWithin, AsksWithin, IsBoundRefusal, IsHashRefusal, IsBoundAnswer, IsWithin, IsStoredRefusal, IsVerifyRefusal, bound_error_text};
 ghost use Rattle.argon2.specs.StoredTexts.{stored_of, stored_value};
 ghost use Rattle.argon2.specs.declared.bound.BoundError.TheVariants.{Refused, TooExpensive};
 
@@ -45,12 +45,12 @@ impl Bound {
     /// - [`BoundError::Refused`] with [`Error::EncodingInvalid`]: the text is outside the grammar.
     /// - those of [`Bound::admit_hash`].
     pub fn admit(&self, text: &str) -> Result<Admitted, BoundError>
-        ensures text { IfOk result (λ admitted. PhcText text.now (phc_of admitted.hash)) }
+        ensures text { IfOk result (λ admitted. IsPhcText text.now (phc_of admitted.hash)) }
         ensures only { IfOk result (λ admitted.
-            (v : Phc) → PhcText text.now v → phc_of admitted.hash ≡ v) }
+            (v : Phc) → IsPhcText text.now v → phc_of admitted.hash ≡ v) }
         ensures within { IfOk result (λ admitted.
             AsksBlocksWithin self.now (phc_of admitted.hash) admitted.blocks) }
-        ensures refused { IfErr result (BoundRefusal self.now text.now) }
+        ensures refused { IfErr result (IsBoundRefusal self.now text.now) }
     {
         let hash = PasswordHash::new(text)?;
         let blocks = self.admit_hash(&hash)?;
@@ -66,7 +66,7 @@ impl Bound {
     /// - [`BoundError::TooExpensive`]: a cost is above the bound's.
     pub fn admit_hash(&self, hash: &PasswordHash) -> Result<usize, BoundError>
         ensures within { IfOk result (AsksBlocksWithin self.now (phc_of hash.now)) }
-        ensures refused { IfErr result (HashRefusal self.now (phc_of hash.now)) }
+        ensures refused { IfErr result (IsHashRefusal self.now (phc_of hash.now)) }
     {
         let params = self.admitted_params(hash)?;
         Ok(params.block_count())
@@ -86,7 +86,7 @@ impl Bound {
         ensures within { IfOk result (λ stored. AsksWithin self.now (phc_of hash.now)) }
         ensures shown { IfOk result (λ stored.
             stored_of (phc_of hash.now) ≡ Ok (stored_value stored)) }
-        ensures refused { IfErr result (StoredRefusal self.now (phc_of hash.now)) }
+        ensures refused { IfErr result (IsStoredRefusal self.now (phc_of hash.now)) }
     {
         let params = self.admitted_params(hash)?;
         let settings = Settings::with_params(hash, params);
@@ -109,12 +109,12 @@ impl Bound {
         password: &[u8],
         text: &str,
     ) -> Result<(), BoundError>
-        ensures answer { IsBoundAnswer self.now (secret_of argon2.now) password.now text.now
-            result }
         ensures accepted { let secret = secret_of argon2.now in
             MatchResult result (λ _. AcceptsWithin self.now secret password.now text.now)
-            (VerifyRefusal self.now secret password.now text.now) }
-        ensures expensive { (v : Phc) → PhcText text.now v → HashRefusal self.now v TooExpensive
+            (IsVerifyRefusal self.now secret password.now text.now) }
+        ensures answer { IsBoundAnswer self.now (secret_of argon2.now) password.now text.now
+            result }
+        ensures expensive { (v : Phc) → IsPhcText text.now v → IsHashRefusal self.now v TooExpensive
             → result ≡ Err TooExpensive }
     {
         let hash = PasswordHash::new(text)?;
@@ -136,7 +136,7 @@ impl Bound {
     fn admitted_params(&self, hash: &PasswordHash) -> Result<Params, BoundError>
         ensures asked { IfOk result (λ params. (asks : AsksWithin self.now (phc_of hash.now))
             × (asks.parameters ≡ parameters_of params)) }
-        ensures refused { IfErr result (HashRefusal self.now (phc_of hash.now)) }
+        ensures refused { IfErr result (IsHashRefusal self.now (phc_of hash.now)) }
     {
         let params = Params::try_from(hash)?;
         if !self.allows(&params) {

@@ -65,9 +65,9 @@ pub struct Argon2<'key> {
 }
 
 impl<'key> Model for Argon2<'key> {
-    ghost use Rattle.argon2.specs.Settings.{Target};
+    ghost use Rattle.argon2.specs.Settings.{TargetValue};
 
-    ghost Value = { Target };
+    ghost Value = { TargetValue };
 
     ghost use Rattle.argon2.specs.Argon2.{target_inside};
 
@@ -194,16 +194,16 @@ impl<'key> Argon2<'key> {
         out: &mut [u8],
         memory: &mut [Words],
     ) -> Result<()>
-        requires data { length associated.now < 2 ^ 32 }
+        requires data { length associated.now ≤ max_len }
         ensures answer { result ≡ answer_unless (refusal_of self.now (length out.old) pwd.now
             salt.now (length memory.old)) tt }
 
-        ensures tag { let ctx = context_under self.now associated.now in OnOk result
-            (out.new ≡ tag_of ctx pwd.now salt.now (length out.old)) }
-        ensures matrix { let ctx = context_under self.now associated.now in OnOk result
-            (blocks_of ctx memory.new ≡ matrix_of ctx pwd.now salt.now (length out.old)) }
-        ensures rest { let ctx = context_under self.now associated.now in OnOk result
-            (KeepsRest ctx memory.old memory.new) }
+        ensures tag { let context = context_under self.now associated.now in OnOk result
+            (out.new ≡ tag_of context pwd.now salt.now (length out.old)) }
+        ensures matrix { let context = context_under self.now associated.now in OnOk result
+            (blocks_of context memory.new ≡ matrix_of context pwd.now salt.now (length out.old)) }
+        ensures rest { let context = context_under self.now associated.now in OnOk result
+            (KeepsRest context memory.old memory.new) }
 
         ensures same { OnErr result ((out.new ≡ out.old) × (memory.new ≡ memory.old)) }
     {
@@ -262,8 +262,8 @@ impl<'key> Argon2<'key> {
             (own_parameters self.now).output_len
             (length out.old) (length pwd.now) (length salt.now)) result }
 
-        ensures tag { let ctx = context_under self.now associated.now in OnOk result
-            (out.new ≡ tag_of ctx pwd.now salt.now (length out.old)) }
+        ensures tag { let context = context_under self.now associated.now in OnOk result
+            (out.new ≡ tag_of context pwd.now salt.now (length out.old)) }
 
         ensures same { OnErr result (out.new ≡ out.old) }
     {
@@ -303,8 +303,8 @@ impl<'key> Argon2<'key> {
 
         ensures hashed { OnOk result (IsHashed self.now pwd.now salt.now out.new memory.old
             memory.new) }
-        ensures positions { let ctx = context_of self.now in OnOk result (AreReferencePlaces ctx
-            (first_block ctx pwd.now salt.now (length out.old)) positions.old positions.new) }
+        ensures positions { let context = context_of self.now in OnOk result (AreReferencePlaces context
+            (first_block context pwd.now salt.now (length out.old)) positions.old positions.new) }
 
         ensures same { OnErr result ((out.new ≡ out.old) × (memory.new ≡ memory.old)
             × (positions.new ≡ positions.old)) }
@@ -347,13 +347,13 @@ impl<'key> Argon2<'key> {
         salt: &[u8],
         memory: &mut [Words],
     ) -> Result<()>
-        requires data { length associated.now < 2 ^ 32 }
+        requires data { length associated.now ≤ max_len }
         ensures answer { result
             ≡ answer_unless (fill_refusal self.now pwd.now salt.now (length memory.old)) tt }
-        ensures matrix { let ctx = context_under self.now associated.now in OnOk result
-            (blocks_of ctx memory.new ≡ matrix_of ctx pwd.now salt.now 0) }
-        ensures rest { let ctx = context_under self.now associated.now in OnOk result
-            (KeepsRest ctx memory.old memory.new) }
+        ensures matrix { let context = context_under self.now associated.now in OnOk result
+            (blocks_of context memory.new ≡ matrix_of context pwd.now salt.now 0) }
+        ensures rest { let context = context_under self.now associated.now in OnOk result
+            (KeepsRest context memory.old memory.new) }
         ensures same { OnErr result (memory.new ≡ memory.old) }
     {
         self.check_filling(pwd, salt, memory.len())?;
@@ -372,19 +372,19 @@ impl<'key> Argon2<'key> {
         memory: &mut [B],
         watch: &mut Watch,
     ) -> Result<()>
-        requires data { length associated.now < 2 ^ 32 }
+        requires data { length associated.now ≤ max_len }
         requires count { watch.old.work < 2 ^ 126 }
         ensures answer { result ≡ answer_unless (refusal_of self.now (length out.old) pwd.now
             salt.now (length memory.old)) tt }
         ensures valid { OnOk result (IsValid (context_of self.now)) }
-        ensures tag { let ctx = context_under self.now associated.now in OnOk result
-            (out.new ≡ tag_of ctx pwd.now salt.now (length out.old)) }
-        ensures filled { let ctx = context_under self.now associated.now in OnOk result
-            (FillsFront ctx pwd.now salt.now (length out.old) (map B.words memory.old)
+        ensures tag { let context = context_under self.now associated.now in OnOk result
+            (out.new ≡ tag_of context pwd.now salt.now (length out.old)) }
+        ensures filled { let context = context_under self.now associated.now in OnOk result
+            (FillsFront context pwd.now salt.now (length out.old) (map B.words memory.old)
             (map B.words memory.new) watch.old.positions.now watch.new.positions.now) }
         ensures list { watch.new.positions.ghost_name ≡ watch.old.positions.ghost_name }
-        ensures count { let ctx = context_under self.now associated.now in OnOk result
-            (watch.new.work ≡ watch.old.work + mixing_calls ctx) }
+        ensures count { let context = context_under self.now associated.now in OnOk result
+            (watch.new.work ≡ watch.old.work + mixing_calls context) }
         ensures same { OnErr result ((out.new ≡ out.old) × (memory.new ≡ memory.old)
             × (watch.new ≡ watch.old)) }
     {

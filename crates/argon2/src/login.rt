@@ -3,9 +3,9 @@
 ghost use Rattle.std.specs.Prelude.{◌≡◌, ◌≢◌, ◌⊎◌, Some, IfOk, OnOk, MatchResult};
 ghost use Rattle.std.specs.FinMap.{empty, entries, get, insert};
 ghost use Rattle.std.specs.Option.{IsSomeAnd, option_copied, option_map};
-ghost use Rattle.rand_core.specs.Stream.{fill_bytes};
+ghost use Rattle.argon2.specs.TextHashing.{drawn_salt};
 ghost use Rattle.argon2_base.specs.PhcFields.{phc_of};
-ghost use Rattle.argon2_base.specs.PhcText.{Phc, PhcText};
+ghost use Rattle.argon2_base.specs.PhcText.{Phc, IsPhcText};
 ghost use Rattle.argon2_base.specs.declared.error.password_hash.Error.TheVariants.{OutOfMemory as NoMemory};
 ghost use Rattle.argon2.specs.declared.login.answers.Accepted.TheVariants.{Kept};
 ghost use Rattle.argon2.specs.declared.login.answers.LoginError.TheVariants.{Refused};
@@ -65,9 +65,9 @@ impl<'key> Login<'key> {
     /// - [`LoginError::OutOfMemory`]: a request for memory was refused.
     pub fn add(&mut self, name: &str, text: &str) -> Outcome<(), LoginError>
         ensures step { Steps (adding name.now text.now result) self.old self.new }
-        ensures text { OnOk result ((v : Phc) → PhcText text.now v →
+        ensures text { OnOk result ((v : Phc) → IsPhcText text.now v →
             get (store_of self.new) name.now ≡ Some v) }
-        ensures inserted { OnOk result ((v : Phc) → PhcText text.now v →
+        ensures inserted { OnOk result ((v : Phc) → IsPhcText text.now v →
             store_of self.new ≡ insert (store_of self.old) name.now v) }
         ensures others { KeepsOthers name.now (store_of self.old) (store_of self.new) }
         ensures target { login_target self.new ≡ login_target self.old }
@@ -107,7 +107,7 @@ impl<'key> Login<'key> {
         password: &[u8],
     ) -> Outcome<Accepted, LoginError>
         ensures step { Steps (logging_in name.now password.now
-            (fill_bytes 16 (R.stream rng.old)).0 result) self.old self.new }
+            (drawn_salt (R.stream rng.old)) result) self.old self.new }
         ensures accepted { MatchResult result
             (λ _. HasPassword (login_target self.old) (store_of self.new) name.now password.now)
             (λ e. (e ≡ Refused NoMemory)

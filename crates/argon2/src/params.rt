@@ -31,8 +31,8 @@ pub struct Params {
 
 impl Params {
     ghost use Rattle.std.specs.Prelude.{◌≤◌, ◌*◌};
-    ghost use Rattle.argon2.specs.Params.{AreBytes, IsParamsOf, IsSetting};
-    ghost use Rattle.argon2.specs.Settings.{cost_parameters};
+    ghost use Rattle.argon2.specs.Params.{AreBytes, IsParamsOf};
+    ghost use Rattle.argon2.specs.Settings.{AreValid, cost_parameters};
     ghost use Rattle.argon2.specs.Argon2.{parameters_of};
     ghost use Rattle.argon2.specs.Rfc9106.{block_count_for, lane_length_for, segment_length_for};
 
@@ -121,21 +121,24 @@ impl Params {
     /// The memory cost in blocks of 1024 bytes. As many are used as fill all segments evenly, which
     /// [`Params::block_count`] says.
     pub fn m_cost(&self) -> u32
-        ensures { IsSetting (λ v. v.m_cost) self.now result }
+        ensures value { result ≡ (parameters_of self.now).m_cost }
+        ensures valid { AreValid (parameters_of self.now) }
     {
         self.m_cost
     }
 
     /// The number of passes.
     pub fn t_cost(&self) -> u32
-        ensures { IsSetting (λ v. v.t_cost) self.now result }
+        ensures value { result ≡ (parameters_of self.now).t_cost }
+        ensures valid { AreValid (parameters_of self.now) }
     {
         self.t_cost
     }
 
     /// The number of lanes.
     pub fn p_cost(&self) -> u32
-        ensures { IsSetting (λ v. v.p_cost) self.now result }
+        ensures value { result ≡ (parameters_of self.now).p_cost }
+        ensures valid { AreValid (parameters_of self.now) }
     {
         self.p_cost
     }
@@ -156,7 +159,8 @@ impl Params {
 
     /// The length that each output has, in bytes, if it is set.
     pub fn output_len(&self) -> Option<usize>
-        ensures { IsSetting (λ v. v.output_len) self.now result }
+        ensures value { result ≡ (parameters_of self.now).output_len }
+        ensures valid { AreValid (parameters_of self.now) }
     {
         self.output_len
     }

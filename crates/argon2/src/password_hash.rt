@@ -3,7 +3,7 @@
 ghost use Rattle.std.specs.Prelude.{◌≡◌, ◌⊎◌, ℕ, List, length, Option, option_copied, MatchResult, IfOk, Result as Outcome};
 ghost use Rattle.argon2_base.specs.declared.error.password_hash.Error.{Error};
 ghost use Rattle.argon2_base.specs.declared.error.password_hash.Error.TheVariants.{OutOfMemory};
-ghost use Rattle.rand_core.specs.Stream.{fill_bytes};
+ghost use Rattle.argon2.specs.TextHashing.{after_salt, drawn_salt};
 
 pub use argon2_base::error::password_hash::{Error, Result};
 pub use argon2_base::phc;
@@ -18,7 +18,7 @@ pub use stored::{Settings, Stored};
 
 /// Hashes passwords.
 pub trait PasswordHasher<H> {
-    // What hashing a password with a salt may return.
+    // What hashing a password with a salt may return, error by error. Most callers need `accepts` alone.
     ghost hash_gives: { Self → List ℕ → List ℕ → Outcome H Error → Type 0 };
 
     // The hash is accepted with the password.
@@ -37,9 +37,9 @@ pub trait PasswordHasher<H> {
     /// - [`Error::OutOfMemory`]: the request was refused.
     /// - [`Error::PasswordInvalid`]: the password is longer than 4294967295 bytes.
     fn hash_password_with_salt(&self, alloc: Global, password: &[u8], salt: &[u8]) -> Result<H>
-        ensures answer { hash_gives self.now password.now salt.now result }
         ensures accepted { IfOk result (accepts self.now password.now) }
-        ensures shown { IfOk result (shows self.now) };
+        ensures shown { IfOk result (shows self.now) }
+        ensures answer { hash_gives self.now password.now salt.now result };
 
     /// The same with a salt of 16 bytes, drawn from `rng` by one `fill_bytes`. They are drawn even
     /// if the call is refused.
@@ -47,12 +47,12 @@ pub trait PasswordHasher<H> {
     /// # Errors
     /// As [`hash_password_with_salt`](PasswordHasher::hash_password_with_salt), but for the salt.
     fn hash_password<R: Rng>(&self, alloc: Global, rng: &mut R, password: &[u8]) -> Result<H>
-        ensures answer { hash_gives self.now password.now (fill_bytes 16 (R.stream rng.old)).0
-            result }
         ensures accepted { IfOk result (accepts self.now password.now) }
         ensures shown { IfOk result (shows self.now) }
-        ensures drawn { R.stream rng.new ≡ (fill_bytes 16 (R.stream rng.old)).1 }
-        ensures salt { length (fill_bytes 16 (R.stream rng.old)).0 ≡ 16 };
+        ensures answer { hash_gives self.now password.now (drawn_salt (R.stream rng.old))
+            result }
+        ensures drawn { R.stream rng.new ≡ after_salt (R.stream rng.old) }
+        ensures salt { length (drawn_salt (R.stream rng.old)) ≡ 16 };
 }
 
 /// Hashes passwords under an algorithm, a version and parameters of the caller's.
@@ -86,14 +86,14 @@ pub trait CustomizedPasswordHasher<H> {
         version: Option<u32>,
         params: Self::Params,
     ) -> Result<H>
+        ensures accepted { IfOk result (accepts self.now password.now) }
         ensures answer { customized_gives self.now (option_copied alg_id.entry) version params
-            password.now salt.now result }
-        ensures accepted { IfOk result (accepts self.now password.now) };
+            password.now salt.now result };
 }
 
 /// Verifies passwords.
 pub trait PasswordVerifier<H> {
-    // What verifying a password against a hash may return.
+    // What verifying a password against a hash may return, error by error. Most callers need `accepts` alone.
     ghost verify_gives: { Self → List ℕ → H → Outcome (Unit {0}) Error → Type 0 };
 
     // The hash accepts the password.
@@ -113,7 +113,7 @@ pub trait PasswordVerifier<H> {
     /// - [`Error::PasswordInvalid`]: the password is longer than 4294967295 bytes, or has another
     ///   hash.
     fn verify_password(&self, alloc: Global, password: &[u8], hash: H) -> Result<()>
-        ensures answer { verify_gives self.now password.now hash result }
         ensures accepted { MatchResult result (λ _. accepts self.now password.now hash)
-            (λ e. (e ≡ OutOfMemory) ⊎ (accepts self.now password.now hash → ⊥)) };
+            (λ e. (e ≡ OutOfMemory) ⊎ (accepts self.now password.now hash → ⊥)) }
+        ensures answer { verify_gives self.now password.now hash result };
 }

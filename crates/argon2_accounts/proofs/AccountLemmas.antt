@@ -4,9 +4,9 @@ use Rattle.std.proofs.lemmas.Slice.Eq.{bytes_eq-Decides}
 use Rattle.argon2_rows.proofs.RowLemmas.{get-changed}
 use Rattle.argon2_store.specs.AccountFile.{Answers}
 use Rattle.argon2_store.specs.Edits.{gives, name_of, names_after}
-pub use Rattle.argon2_accounts.specs.Accounts.{Accepted, AccountError, AccountFile, AdmitsName, AdmitsStored, ChangeRefusal, ChangesName, Denial, Denied, Denies, DrawsForLogin, File, FileError, Ghosts, GivesPassword, HasNames, IsFresh, IsHonest}
-pub use Rattle.argon2_accounts.specs.Accounts.{LogsIn, LogsNameIn, NamedEdit, NamesStay, PasswordHash, Phc, Policy, Rehashed, RelatesNames, SaysValue, Serves, Stream, TellsOf, TellsOfRenewal, Texts, adding, changed, database_of}
-pub use Rattle.argon2_accounts.specs.Accounts.{fill_bytes, get, is_account_refusal, phc_of, policy_value, replacing, setting, stream_after, text_of}
+pub use Rattle.argon2_accounts.specs.Accounts.{Accepted, AccountError, AccountFile, AdmitsName, AdmitsStored, IsChangeRefusal, ChangesName, Denial, Denied, Denies, DrawsForLogin, File, FileError, Ghosts, GivesPassword, HasNames, IsFresh, IsHonest}
+pub use Rattle.argon2_accounts.specs.Accounts.{LogsIn, LogsNameIn, NamedEdit, NamesStay, PasswordHash, Phc, PolicyValue, Rehashed, RelatesNames, SaysValue, Serves, Stream, TellsOf, TellsOfRenewal, Texts, adding, changed, database_of}
+pub use Rattle.argon2_accounts.specs.Accounts.{drawn_salt, get, is_account_refusal, phc_of, policy_value, replacing, setting, stream_after, text_of}
 pub use Rattle.argon2_policy.proofs.PolicyLemmas.{text_or}
 pub use Rattle.argon2_rows.proofs.TableLemmas.{err_is}
 
@@ -34,7 +34,7 @@ module _ {S : Type 0} {g : Ghosts S} where
       (it.0, it.1.has, λ honest. holds before it.0 read.has (it.1.honest honest) (it.1.answers honest))
 
   -- a name that is given the text of a hash
-  pub gives_text : (policy : Policy) (edit : NamedEdit) (password : List ℕ) (text : List ℕ)
+  pub gives_text : (policy : PolicyValue) (edit : NamedEdit) (password : List ℕ) (text : List ℕ)
       → ((o : Option (List ℕ)) → gives edit o ≡ Some text) → AdmitsStored policy password (Some text)
       → (done : Result (Unit {0}) FileError) (result : Result (Unit {0}) AccountError) → TellsOf result done
       → {old new : AccountFile S g} → Serves (edit ∷ []) done old new
@@ -45,10 +45,10 @@ module _ {S : Type 0} {g : Ghosts S} where
       (it.0, it.1.has, λ honest. let answers = it.1.answers honest in grind (arith, given (get before (name_of edit))))
 
 -- a name whose password is verified, and whose text is perhaps replaced
-module _ (policy : Policy) (name password : List ℕ) (before : Texts) where
+module _ (policy : PolicyValue) (name password : List ℕ) (before : Texts) where
   -- why a password is not changed
   pub keeps : (fresh : List ℕ) (why : Denial) (rng left : Stream)
-      → ChangeRefusal policy password fresh (get before name) rng left why
+      → IsChangeRefusal policy password fresh (get before name) rng left why
       → ChangesName {X = Unit {0}} policy name password fresh rng left (Err (Denied why)) before before
   keeps fresh why rng left (inl (denies, same)) = (refl, λ is. inl ((why, denies, refl), same))
   keeps fresh why rng left (inr (admits, making, drawn)) = (refl, grind arith)
@@ -64,7 +64,7 @@ module _ (policy : Policy) (name password : List ℕ) (before : Texts) where
   pub changes : (new text : List ℕ) (rng left : Stream) (fresh : PasswordHash) (after : Texts)
       (done : Result (Unit {0}) FileError) (result : Result (Unit {0}) AccountError) → TellsOf result done
       → get before name ≡ Some text → AdmitsStored policy password (Some text) → AdmitsStored policy new (Some (text_of fresh))
-      → IsFresh policy.target new (fill_bytes 16 rng).0 (phc_of fresh)
+      → IsFresh policy.target new (drawn_salt rng) (phc_of fresh)
       → Answers before (replacing name text (text_of fresh) ∷ []) done after
       → ChangesName policy name password new rng left result before after
   changes new text rng left fresh after (Ok x) result is has by next made answers =

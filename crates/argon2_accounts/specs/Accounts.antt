@@ -4,7 +4,7 @@ pub use Rattle.std.specs.Result.{result_map_both}
 pub use Rattle.argon2_base.specs.PhcText.{Phc, phc_text}
 pub use Rattle.argon2_base.specs.declared.phc.hash.PasswordHash.{PasswordHash}
 pub use Rattle.argon2.specs.declared.login.answers.Accepted.{Accepted}
-pub use Rattle.argon2_policy.specs.Policy.{AdmitsStored, ChangeRefusal, Denies, Error, HashingRefusal, IsFresh, Kept, LogsIn, Policy, Rehashed, SaysValue, Stream, Target, fill_bytes, max_len, phc_of, policy_value, stream_after, text_of}
+pub use Rattle.argon2_policy.specs.Policy.{AdmitsStored, IsChangeRefusal, Denies, Error, IsHashingRefusal, IsFresh, Kept, LogsIn, PolicyValue, Rehashed, SaysValue, Stream, TargetValue, after_salt, drawn_salt, max_len, phc_of, policy_value, stream_after, text_of}
 pub use Rattle.argon2_rows.specs.Names.{Texts, changed, get}
 pub use Rattle.argon2_rows.specs.Table.{Ghosts, IsHonest}
 pub use Rattle.argon2_store.specs.AccountFile.{HasNames, IsClosed, NamesStay, Serves, database_of}
@@ -13,11 +13,11 @@ pub use Rattle.argon2_store.specs.declared.account_file.AccountFile.{AccountFile
 pub use Rattle.argon2_accounts.specs.Errors.{AccountError, Denial, Denied, File, FileError, Refused, is_account_refusal}
 
 -- what the name has accepts the password within the bound
-abbrev pub AdmitsName : Policy → Texts → List ℕ → List ℕ → Type 0
+abbrev pub AdmitsName : PolicyValue → Texts → List ℕ → List ℕ → Type 0
 AdmitsName policy names name password = AdmitsStored policy password (get names name)
 
 -- what the name has refuses the password
-abbrev pub IsDenied : Policy → List ℕ → Option (List ℕ) → AccountError → Type 0
+abbrev pub IsDenied : PolicyValue → List ℕ → Option (List ℕ) → AccountError → Type 0
 IsDenied policy password stored e = (why : Denial) × Denies policy password stored why × (e ≡ Denied why)
 
 -- the names after a login that left this value: its text is written exactly if it is a fresh one
@@ -36,10 +36,10 @@ TellsOfRenewal result (Err e) = (result ≡ Ok Kept) ⊎ (result ≡ Err (File e
 
 module _ {S : Type 0} {g : Ghosts S} where
   -- A fresh text of the password is made, and the file makes this edit with it; without a text nothing is asked of the file.
-  abbrev pub Stores : (List ℕ → NamedEdit) → Target → List ℕ → List ℕ → Result (Unit {0}) AccountError
+  abbrev pub Stores : (List ℕ → NamedEdit) → TargetValue → List ℕ → List ℕ → Result (Unit {0}) AccountError
       → AccountFile S g → AccountFile S g → Type 0
   Stores edit target password drawn result old new =
-      ((why : Error) × HashingRefusal password why × (result ≡ Err (Denied (Refused why))) × (new ≡ old))
+      ((why : Error) × IsHashingRefusal password why × (result ≡ Err (Denied (Refused why))) × (new ≡ old))
       ⊎ ((fresh : PasswordHash) × (done : Result (Unit {0}) FileError) × IsFresh target password drawn (phc_of fresh)
       × TellsOf result done × Serves (edit (text_of fresh) ∷ []) done old new)
 
@@ -51,7 +51,7 @@ module _ {S : Type 0} {g : Ghosts S} where
 
   -- The text of the name is read, and perhaps a fresh text of the password written in the place of the one that was read,
   -- of which the result tells.
-  abbrev pub Replaces : {X : Type 0} → (Result X AccountError → Result (Unit {0}) FileError → Type 0) → Target → List ℕ → List ℕ
+  abbrev pub Replaces : {X : Type 0} → (Result X AccountError → Result (Unit {0}) FileError → Type 0) → TargetValue → List ℕ → List ℕ
       → List ℕ → Result X AccountError → AccountFile S g → AccountFile S g → Type 0
   Replaces Tells target name password drawn result old new = OnlyReads result old new
       ⊎ ((mid : AccountFile S g) × (text : List ℕ) × (fresh : PasswordHash) × (done : Result (Unit {0}) FileError)
@@ -64,12 +64,12 @@ module _ {S : Type 0} {g : Ghosts S} where
       → (after : Texts) × HasNames new after × (IsHonest g (database_of new) → P before after)
 
 -- what registering a name or setting its password answers, and the names after it
-abbrev pub GivesPassword : {X : Type 0} → Policy → List ℕ → List ℕ → Result X AccountError → Texts → Texts → Type 0
+abbrev pub GivesPassword : {X : Type 0} → PolicyValue → List ℕ → List ℕ → Result X AccountError → Texts → Texts → Type 0
 GivesPassword policy name password (Ok _) before after = AdmitsName policy after name password
 GivesPassword policy name password (Err e) before after = after ≡ before
 
 -- a login, which says what it did with the text of the name
-abbrev pub LogsNameIn : Policy → List ℕ → List ℕ → List ℕ → Result Accepted AccountError → Texts → Texts → Type 0
+abbrev pub LogsNameIn : PolicyValue → List ℕ → List ℕ → List ℕ → Result Accepted AccountError → Texts → Texts → Type 0
 LogsNameIn policy name password drawn (Ok did) before after = AdmitsName policy before name password
     × AdmitsName policy after name password × ((v w : Phc) × SaysValue (get before name) v
     × LogsIn policy password drawn v did w × Renews name did w before after)
@@ -77,10 +77,10 @@ LogsNameIn policy name password drawn (Err e) before after = (after ≡ before)
     × (IsTrue (is_account_refusal e) → IsDenied policy password (get before name) e)
 
 -- a change of a password: the name has a fresh text then; a refusal of the old password draws nothing
-abbrev pub ChangesName : {X : Type 0} → Policy → List ℕ → List ℕ → List ℕ → Stream → Stream → Result X AccountError
+abbrev pub ChangesName : {X : Type 0} → PolicyValue → List ℕ → List ℕ → List ℕ → Stream → Stream → Result X AccountError
     → Texts → Texts → Type 0
 ChangesName policy name old password rng left (Ok _) before after = AdmitsName policy before name old
-    × AdmitsName policy after name password × ((fresh : Phc) × IsFresh policy.target password (fill_bytes 16 rng).0 fresh
+    × AdmitsName policy after name password × ((fresh : Phc) × IsFresh policy.target password (drawn_salt rng) fresh
     × (after ≡ changed before name (Some (phc_text fresh))))
 ChangesName policy name old password rng left (Err e) before after = (after ≡ before)
     × (IsTrue (is_account_refusal e) → (IsDenied policy old (get before name) e × (left ≡ rng))
@@ -90,4 +90,4 @@ ChangesName policy name old password rng left (Err e) before after = (after ≡ 
 -- the text is made, or after it.
 abbrev pub DrawsForLogin : Result Accepted AccountError → Stream → Stream → Type 0
 DrawsForLogin (Ok did) before after = after ≡ stream_after {E = AccountError} (Ok did) before
-DrawsForLogin (Err e) before after = (after ≡ before) ⊎ (after ≡ (fill_bytes 16 before).1)
+DrawsForLogin (Err e) before after = (after ≡ before) ⊎ (after ≡ after_salt before)

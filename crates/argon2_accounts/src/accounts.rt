@@ -2,7 +2,7 @@
 
 ghost use Rattle.std.specs.Prelude.{◌≡◌, ◌⊎◌, IsErr, IsTrue, OnErr};
 ghost use Rattle.argon2_accounts.specs.Accounts.{ChangesName, DrawsForLogin, GivesPassword, LogsNameIn, RelatesNames, Replaces, Stores, TellsOf, TellsOfRenewal};
-ghost use Rattle.argon2_accounts.specs.Accounts.{IsClosed, IsHonest, adding, database_of, fill_bytes, policy_value, setting};
+ghost use Rattle.argon2_accounts.specs.Accounts.{IsClosed, IsHonest, adding, database_of, after_salt, drawn_salt, policy_value, setting};
 
 use crate::error::AccountError;
 use argon2::login::{Accepted, LoggedIn};
@@ -38,11 +38,11 @@ impl<'key, S: Store> Accounts<'key, S> {
         password: &[u8],
     ) -> Result<(), AccountError>
         ensures call { Stores (adding name.now) (policy_value self.old.policy).target password.now
-            (fill_bytes 16 (R.stream rng.old)).0 result self.old.file self.new.file }
+            (drawn_salt (R.stream rng.old)) result self.old.file self.new.file }
         ensures names { RelatesNames (GivesPassword (policy_value self.old.policy) name.now password.now
             result) self.old.file self.new.file }
         ensures policy { self.new.policy ≡ self.old.policy }
-        ensures drawn { R.stream rng.new ≡ (fill_bytes 16 (R.stream rng.old)).1 }
+        ensures drawn { R.stream rng.new ≡ after_salt (R.stream rng.old) }
     {
         let text = self.policy.hash_password(rng, password)?;
         self.file.add(name, &text).map_err(AccountError::from)
@@ -66,9 +66,9 @@ impl<'key, S: Store> Accounts<'key, S> {
         password: &[u8],
     ) -> Result<Accepted, AccountError>
         ensures call { Replaces TellsOfRenewal (policy_value self.old.policy).target name.now
-            password.now (fill_bytes 16 (R.stream rng.old)).0 result self.old.file self.new.file }
+            password.now (drawn_salt (R.stream rng.old)) result self.old.file self.new.file }
         ensures names { RelatesNames (LogsNameIn (policy_value self.old.policy) name.now password.now
-            (fill_bytes 16 (R.stream rng.old)).0 result) self.old.file self.new.file }
+            (drawn_salt (R.stream rng.old)) result) self.old.file self.new.file }
         ensures policy { self.new.policy ≡ self.old.policy }
         ensures drawn { DrawsForLogin result (R.stream rng.old) (R.stream rng.new) }
         ensures served { IsHonest S.Store (database_of self.new.file) → OnErr result
@@ -101,11 +101,11 @@ impl<'key, S: Store> Accounts<'key, S> {
         new: &[u8],
     ) -> Result<(), AccountError>
         ensures call { Replaces TellsOf (policy_value self.old.policy).target name.now new.now
-            (fill_bytes 16 (R.stream rng.old)).0 result self.old.file self.new.file }
+            (drawn_salt (R.stream rng.old)) result self.old.file self.new.file }
         ensures names { RelatesNames (ChangesName (policy_value self.old.policy) name.now old.now new.now
             (R.stream rng.old) (R.stream rng.new) result) self.old.file self.new.file }
         ensures policy { self.new.policy ≡ self.old.policy }
-        ensures drawn { (R.stream rng.new ≡ (fill_bytes 16 (R.stream rng.old)).1)
+        ensures drawn { (R.stream rng.new ≡ after_salt (R.stream rng.old))
             ⊎ (IsErr result × (R.stream rng.new ≡ R.stream rng.old)) }
     {
         let text = self.file.text_of(name)?;
@@ -130,11 +130,11 @@ impl<'key, S: Store> Accounts<'key, S> {
         new: &[u8],
     ) -> Result<(), AccountError>
         ensures call { Stores (setting name.now) (policy_value self.old.policy).target new.now
-            (fill_bytes 16 (R.stream rng.old)).0 result self.old.file self.new.file }
+            (drawn_salt (R.stream rng.old)) result self.old.file self.new.file }
         ensures names { RelatesNames (GivesPassword (policy_value self.old.policy) name.now new.now
             result) self.old.file self.new.file }
         ensures policy { self.new.policy ≡ self.old.policy }
-        ensures drawn { R.stream rng.new ≡ (fill_bytes 16 (R.stream rng.old)).1 }
+        ensures drawn { R.stream rng.new ≡ after_salt (R.stream rng.old) }
     {
         let text = self.policy.hash_password(rng, new)?;
         self.file.set(name, &text).map_err(AccountError::from)

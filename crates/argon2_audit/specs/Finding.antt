@@ -7,10 +7,10 @@ use Rattle.std.specs.Str.{IsUtf8, bytes_eq}
 use Rattle.argon2_programs.specs.Prefixes.{after_any, without_prefix, begins_any}
 use Rattle.argon2_programs.specs.Schemes.{scheme_of}
 use Rattle.argon2_base.specs.Error.{Fault, bad_encoding, outcome_of}
-use Rattle.argon2_base.specs.PhcText.{Phc, PhcText}
+use Rattle.argon2_base.specs.PhcText.{Phc, IsPhcText}
 use Rattle.argon2_base.specs.declared.error.password_hash.Error.{Error}
 use Rattle.argon2.specs.Argon2.{keyid_bytes}
-use Rattle.argon2.specs.Settings.{Settings, algorithm_number, version_number}
+use Rattle.argon2.specs.Settings.{SettingsValue, algorithm_number, version_number}
 use Rattle.argon2.specs.StoredTexts.{result_and_then, settings_value, shown_settings}
 use Rattle.argon2_audit.specs.declared.claim.Claim.{Claim}
 use Rattle.argon2_audit.specs.declared.claim.Claim.TheVariants.{Argon2, Other, Locked, Empty, Blank, Comment, NoField, Unknown}
@@ -106,18 +106,18 @@ stored_in field line = unwrap_or (option_map without_prefix (field_in field (tri
 -- ---- what a stored text shows
 
 -- the settings of an entry, the salt and the hash's length if they are there
-abbrev pub entry_value : Entry → Settings × Option (List ℕ) × Option ℕ
+abbrev pub entry_value : Entry → SettingsValue × Option (List ℕ) × Option ℕ
 entry_value entry = (settings_value entry.settings, entry.salt, entry.hash_len)
 
 -- what a value shows of these, or the fault of its settings
-abbrev pub shown_entry : Phc → Result (Settings × Option (List ℕ) × Option ℕ) Fault
+abbrev pub shown_entry : Phc → Result (SettingsValue × Option (List ℕ) × Option ℕ) Fault
 shown_entry v = result_and_then (shown_settings v) (λ settings. Ok (settings, v.salt, option_map length v.hash))
 
 -- what a text shows by its value, or `EncodingInvalid` if it is no value's
 abbrev pub IsEntryAnswer : List ℕ → Result Entry Error → Type 0
 IsEntryAnswer text r =
-    ((v : Phc) × PhcText text v × (outcome_of entry_value r ≡ shown_entry v))
-    ⊎ (((v : Phc) → PhcText text v → ⊥) × (outcome_of entry_value r ≡ Err bad_encoding))
+    ((v : Phc) × IsPhcText text v × (outcome_of entry_value r ≡ shown_entry v))
+    ⊎ (((v : Phc) → IsPhcText text v → ⊥) × (outcome_of entry_value r ≡ Err bad_encoding))
 
 -- ---- what is below limits
 

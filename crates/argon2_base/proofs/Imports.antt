@@ -38,8 +38,8 @@ pub use Rattle.argon2_base.specs.Lanes.{column_lanes, exchanged_left, exchanged_
 unfoldable pub use Rattle.argon2_base.specs.Lanes.{words_in_eights}
 pub use Rattle.argon2_base.specs.LongHash.{half, joined}
 unfoldable pub use Rattle.argon2_base.specs.LongHash.{chain, long_hash}
-pub use Rattle.argon2_base.specs.PhcFields.{NoItemFirst, NoVersionFirst, fields_left, fields_of, phc_of}
-pub use Rattle.argon2_base.specs.PhcText.{HasBytes, IsPhc, Lacks, Pair, ParamsText, Phc, PhcText, are_distinct, are_params, field, fields, fields_text, is_param, item, items_left, items_of}
+pub use Rattle.argon2_base.specs.PhcFields.{HasNoItemFirst, HasNoVersionFirst, fields_left, fields_of, phc_of}
+pub use Rattle.argon2_base.specs.PhcText.{HasBytes, IsPhc, Lacks, Pair, IsParamsText, Phc, IsPhcText, are_distinct, are_params, field, fields, fields_text, is_param, item, items_left, items_of}
 pub use Rattle.argon2_base.specs.PhcText.{list_field, pair_of, pairs_eq, pairs_left, pairs_of, params_text, phc_eq, phc_text, value_of, version_text, with_item}
 pub use Rattle.argon2_base.specs.Texts.{IsBytes, alphabet, is_name, is_name_char, is_value, is_value_char, number_of, short_bytes}
 unfoldable pub use Rattle.argon2_base.specs.Texts.{strict_base64}

@@ -18,12 +18,12 @@ fields_left None = []
 fields_left (Some rest) = fields_of rest.now
 
 -- no version stands first
-abbrev pub NoVersionFirst : List (List ℕ) → Type 0
-NoVersionFirst fs = (d : List ℕ) (more : List (List ℕ)) → fs ≡ item (codes "v", d) ∷ more → ⊥
+abbrev pub HasNoVersionFirst : List (List ℕ) → Type 0
+HasNoVersionFirst fs = (d : List ℕ) (more : List (List ℕ)) → fs ≡ item (codes "v", d) ∷ more → ⊥
 
 -- no item stands first
-abbrev pub NoItemFirst : List (List ℕ) → Type 0
-NoItemFirst fs = (p : Pair) (more : List (List ℕ)) → fs ≡ item p ∷ more → ⊥
+abbrev pub HasNoItemFirst : List (List ℕ) → Type 0
+HasNoItemFirst fs = (p : Pair) (more : List (List ℕ)) → fs ≡ item p ∷ more → ⊥
 
 -- The answer of a reader of bytes, at least low and at most high of them, given the fields left: the
 -- bytes if strict Base64 of so many stands first, none if nothing is left, else a refusal.

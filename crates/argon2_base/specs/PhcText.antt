@@ -50,8 +50,8 @@ abbrev pub are_params : List Pair → Bool
 are_params ps = list_all is_param ps && are_distinct ps && nat_le (length (params_text ps)) 127
 
 -- the text is the list's
-abbrev pub ParamsText : List ℕ → List Pair → Type 0
-ParamsText text ps = IsTrue (are_params ps) × (text ≡ params_text ps)
+abbrev pub IsParamsText : List ℕ → List Pair → Type 0
+IsParamsText text ps = IsTrue (are_params ps) × (text ≡ params_text ps)
 
 -- whether two lists have the same names and values in the same order
 abbrev pub pairs_eq : List Pair → List Pair → Bool
@@ -161,8 +161,8 @@ pub record IsPhc (v : Phc) : Type 0 where
   pub salted : IsSome v.hash → IsSome v.salt
 
 -- the text is the value's
-abbrev pub PhcText : List ℕ → Phc → Type 0
-PhcText text v = IsPhc v × (text ≡ phc_text v)
+abbrev pub IsPhcText : List ℕ → Phc → Type 0
+IsPhcText text v = IsPhc v × (text ≡ phc_text v)
 
 -- whether two values say the same
 abbrev pub phc_eq : Phc → Phc → Bool

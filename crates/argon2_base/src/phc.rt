@@ -1,7 +1,7 @@
 //! PHC texts and their parts, read and printed exactly.
 //!
 //! The grammar is the project's profile of the PHC string format, on the page docs/PHC.md, and the
-//! definition `PhcText`. Each value has one spelling, and each text one reading. The longest text
+//! definition `IsPhcText`. Each value has one spelling, and each text one reading. The longest text
 //! has 326 bytes. No call allocates.
 
 mod bytes;

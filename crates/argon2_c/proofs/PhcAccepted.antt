@@ -6,7 +6,7 @@ use Rattle.std.proofs.Math.Nat.{div-mul-le_self}
 use Rattle.std.proofs.lemmas.Bool.Decides.{nat_tests}
 use Rattle.std.proofs.lemmas.Slice.Eq.{bytes_eq-Decides}
 use Rattle.argon2_base.specs.Error.{Fault, bad_algorithm, bad_encoding, bad_output_size, bad_param, bad_params, bad_password, bad_salt, bad_version, no_memory}
-use Rattle.argon2_base.specs.PhcText.{HasBytes, Phc, PhcText}
+use Rattle.argon2_base.specs.PhcText.{HasBytes, Phc, IsPhcText}
 use Rattle.argon2.specs.Bound.{AsksWithin, IsWithin}
 use Rattle.argon2.specs.ListedParameters.{asked_of}
 use Rattle.argon2.specs.Refusals.{first_of, max_len}
@@ -17,7 +17,7 @@ use Rattle.argon2.specs.declared.algorithm.Algorithm.{Algorithm}
 use Rattle.argon2.specs.declared.algorithm.Algorithm.TheVariants.{Argon2d, Argon2i, Argon2id}
 use Rattle.argon2.specs.declared.version.Version.{Version}
 use Rattle.argon2.specs.declared.version.Version.TheVariants.{V0x10, V0x13}
-use Rattle.argon2.specs.StoredTexts.{AcceptsBy, Stored, stored_of}
+use Rattle.argon2.specs.StoredTexts.{AcceptsBy, StoredValue, stored_of}
 use Rattle.argon2.proofs.password_hash_lemmas.Verified.{exact}
 use Rattle.argon2_c.specs.declared.code.TheConstants.{OK, PWD_TOO_LONG, SECRET_TOO_LONG, ABOVE_BOUND, OUTPUT_OUT_OF_BOUND, TEXT_MEMORY, TEXT_PASSES, TEXT_LANES, TEXT_KEYID, TEXT_DATA}
 use Rattle.argon2_c.specs.declared.phc.shown.PhcShown.{PhcShown}
@@ -77,14 +77,14 @@ blocks_most : (m p : ℕ) → block_count_for m p ≤ m
 unfolding segment_length_for
 blocks_most m p = omega (arith, div-mul-le_self m (4 * p))
 
-admitted_by : (bound : PhcBound) (v : Phc) (parameters : Parameters) (stored : Stored) → asked_of v ≡ Ok parameters
+admitted_by : (bound : PhcBound) (v : Phc) (parameters : Parameters) (stored : StoredValue) → asked_of v ≡ Ok parameters
     → is_within bound parameters ≡ true → stored_of v ≡ Ok stored → is_sized bound stored.hash ≡ true
     → admitted_of bound v ≡ Ok stored
 admitted_by bound v parameters stored asked inside is fits = rw (is, asked, inside, fits) refl
 
 -- a value that is admitted for a password and two secrets of so many bytes, and what it is verified by
 pub record Admitted (bound : PhcBound) (password secret old_secret : ℕ) (v : Phc) : Type 0 where
-  pub stored : Stored
+  pub stored : StoredValue
   pub admits : admitted_of bound v ≡ Ok stored
   pub reads : stored_of v ≡ Ok stored
   pub asks : AsksWithin (bound_of bound) v
@@ -122,11 +122,11 @@ admitted bound password secret old_secret v h =
 -- ---- what is accepted
 
 -- the hash is the password's tag under the secret
-abbrev pub IsTag : Stored → List ℕ → List ℕ → Type 0
+abbrev pub IsTag : StoredValue → List ℕ → List ℕ → Type 0
 IsTag stored secret password =
     stored.hash ≡ tag_of (context_with stored.settings secret) password stored.salt (length stored.hash)
 
-pub accepts : (secret password : List ℕ) (v : Phc) (stored : Stored) → stored_of v ≡ Ok stored → length password ≤ max_len
+pub accepts : (secret password : List ℕ) (v : Phc) (stored : StoredValue) → stored_of v ≡ Ok stored → length password ≤ max_len
     → IsTag stored secret password → AcceptsBy secret password v
 accepts secret password v stored is most same =
     let fits = le-leb (length password) 4294967295 most in
@@ -134,10 +134,10 @@ accepts secret password v stored is most same =
     exact secret password v (Ok tt) (inl (rw (is, fits, equal) refl))
 
 -- what a value says that accepts
-abbrev pub stored_by : {secret password : List ℕ} {v : Phc} → AcceptsBy secret password v → Stored
+abbrev pub stored_by : {secret password : List ℕ} {v : Phc} → AcceptsBy secret password v → StoredValue
 stored_by a = record { settings = a.settings; salt = a.salt; hash = a.hash }
 
-pub record IsTaken (bound : PhcBound) (password secret old_secret : ℕ) (v : Phc) (stored : Stored) : Type 0 where
+pub record IsTaken (bound : PhcBound) (password secret old_secret : ℕ) (v : Phc) (stored : StoredValue) : Type 0 where
   pub admits : admitted_of bound v ≡ Ok stored
   pub reads : stored_of v ≡ Ok stored
   pub code : admit_code bound password secret old_secret v ≡ OK
@@ -158,7 +158,7 @@ taken bound key password secret old_secret v asks a least most secret_most old_m
     record { admits = admits; reads = reads; code = rw (admits, is_short, is_short_secret, is_short_old) refl }
 
 -- what is read has the salt and the hash of the text
-pub parts : (v : Phc) (stored : Stored) → stored_of v ≡ Ok stored → (v.salt ≡ Some stored.salt) × (v.hash ≡ Some stored.hash)
+pub parts : (v : Phc) (stored : StoredValue) → stored_of v ≡ Ok stored → (v.salt ≡ Some stored.salt) × (v.hash ≡ Some stored.hash)
 parts v stored is = (grind arith, grind arith)
 
 -- ---- what admitting answers
@@ -197,11 +197,11 @@ versions : (version : Version) → (version_number version ≡ 16) ⊎ (version_
 versions V0x10 = inl refl
 versions V0x13 = inr refl
 
-ok_of : {x y : Stored} (a b : Result Stored ℤ) → a ≡ Ok x → b ≡ Ok y → a ≡ b → x ≡ y
+ok_of : {x y : StoredValue} (a b : Result StoredValue ℤ) → a ≡ Ok x → b ≡ Ok y → a ≡ b → x ≡ y
 ok_of a b is other same = grind arith
 
-module _ (bound : PhcBound) (text : List ℕ) (password secret old_secret : ℕ) (v : Phc) (says : PhcText text v)
-    (only : (w : Phc) → PhcText text w → v ≡ w) where
+module _ (bound : PhcBound) (text : List ℕ) (password secret old_secret : ℕ) (v : Phc) (says : IsPhcText text v)
+    (only : (w : Phc) → IsPhcText text w → v ≡ w) where
   -- a text that is refused
   pub refused : (code : ℤ) (shown : PhcShown) → code ≡ admit_code bound password secret old_secret v → (code ≡ OK → ⊥)
       → IsAdmitted bound text password secret old_secret code shown
@@ -241,7 +241,7 @@ module _ (bound : PhcBound) (text : List ℕ) (password secret old_secret : ℕ)
       }
 
   -- a text that is admitted and shown
-  pub shown_so : (stored : Stored) (shown : PhcShown) → Ok stored ≡ admitted_of bound v
+  pub shown_so : (stored : StoredValue) (shown : PhcShown) → Ok stored ≡ admitted_of bound v
       → first_of (key_faults password secret old_secret) ≡ None → ShowsFields v shown → ShowsSettings stored.settings shown
       → AreValid stored.settings.parameters → shown.associated_len ≤ max_len
       → IsAdmitted bound text password secret old_secret OK shown

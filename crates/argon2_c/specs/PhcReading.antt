@@ -2,11 +2,11 @@
 use Rattle.std.specs.Prelude.{◌≡◌, ◌⊎◌, ℕ, ◌+◌, ◌==◌, ◌&&◌, ◌||◌, nat_lt, nat_le, Bool, false, ℤ, Result, Ok, Err, if◌then◌else◌, List, [], ◌∷◌, ◌++◌, ◌-◌, codes, length, replicate, unwrap_or}
 use Rattle.std.specs.Str.{bytes_eq}
 use Rattle.argon2_base.specs.Error.{Fault, bad_algorithm, bad_param, bad_params, bad_password, bad_version}
-use Rattle.argon2_base.specs.PhcText.{Phc, PhcText, fields_text, field, params_text, version_text}
+use Rattle.argon2_base.specs.PhcText.{Phc, IsPhcText, fields_text, field, params_text, version_text}
 use Rattle.argon2.specs.ListedParameters.{asked_of}
 use Rattle.argon2.specs.Refusals.{first_of, max_len}
-use Rattle.argon2.specs.Settings.{Parameters, Settings, algorithm_number, version_number}
-use Rattle.argon2.specs.StoredTexts.{Stored, shown_settings, stored_of}
+use Rattle.argon2.specs.Settings.{Parameters, SettingsValue, algorithm_number, version_number}
+use Rattle.argon2.specs.StoredTexts.{StoredValue, shown_settings, stored_of}
 use Rattle.argon2.specs.declared.bound.Bound.{Bound}
 use Rattle.argon2_c.specs.declared.code.TheConstants.{OK, CURRENT, OTHER, BELOW, PWD_TOO_LONG, SECRET_TOO_LONG, NO_ALGORITHM, NO_VERSION, TEXT_INVALID, TEXT_MEMORY, TEXT_PASSES, TEXT_LANES, TEXT_KEYID, TEXT_DATA, TEXT_PARAMETERS, TEXT_INCOMPLETE, ABOVE_BOUND, OUTPUT_OUT_OF_BOUND}
 use Rattle.argon2_c.specs.Requests.{IsFaultless}
@@ -66,7 +66,7 @@ pub record ShowsFields (v : Phc) (shown : PhcShown) : Type 0 where
   pub output : Shows 64 (unwrap_or v.hash []) shown.output_len shown.output
 
 -- settings
-pub record ShowsSettings (settings : Settings) (shown : PhcShown) : Type 0 where
+pub record ShowsSettings (settings : SettingsValue) (shown : PhcShown) : Type 0 where
   pub algorithm : shown.algorithm ≡ algorithm_number settings.algorithm
   pub version : shown.version ≡ version_number settings.version
   pub m_cost : shown.m_cost ≡ settings.parameters.m_cost
@@ -92,14 +92,14 @@ show_code v = code_of (coded (shown_settings v) (λ settings. Ok settings)) (λ 
 -- ---- when a text is to be renewed
 
 -- a cost, the version or the length of the hash is below what is wanted
-abbrev pub is_below : Request → ℕ → Settings → ℕ → Bool
+abbrev pub is_below : Request → ℕ → SettingsValue → ℕ → Bool
 is_below wanted output shown hash =
     nat_lt shown.parameters.m_cost wanted.m_cost || nat_lt shown.parameters.t_cost wanted.t_cost
     || nat_lt shown.parameters.p_cost wanted.lanes || nat_lt hash output
     || nat_lt (version_number shown.version) wanted.version
 
 -- all is as wanted
-abbrev pub is_wanted : Request → ℕ → List ℕ → List ℕ → Settings → ℕ → Bool
+abbrev pub is_wanted : Request → ℕ → List ℕ → List ℕ → SettingsValue → ℕ → Bool
 is_wanted wanted output keyid associated shown hash =
     (algorithm_number shown.algorithm == wanted.algorithm) && (version_number shown.version == wanted.version)
     && (shown.parameters.m_cost == wanted.m_cost) && (shown.parameters.t_cost == wanted.t_cost)
@@ -129,7 +129,7 @@ abbrev pub is_sized : PhcBound → List ℕ → Bool
 is_sized bound hash = nat_le bound.min_output (length hash) && nat_le (length hash) bound.max_output
 
 -- what a value is verified by, if the bound admits it
-abbrev pub admitted_of : PhcBound → Phc → Result Stored ℤ
+abbrev pub admitted_of : PhcBound → Phc → Result StoredValue ℤ
 admitted_of bound v = coded (asked_of v) (λ parameters.
     if is_within bound parameters then coded (stored_of v) (λ stored.
     if is_sized bound stored.hash then Ok stored else Err OUTPUT_OUT_OF_BOUND)
@@ -169,10 +169,10 @@ admitted_request threads shown = record {
 -- what admitting answers for a password and two secrets of so many bytes: the code, and what is then shown
 pub record IsAdmitted (bound : PhcBound) (text : List ℕ) (password secret old_secret : ℕ) (code : ℤ) (shown : PhcShown) : Type 0
   where
-    pub said : (v : Phc) → PhcText text v → code ≡ admit_code bound password secret old_secret v
-    pub found : code ≡ OK → (v : Phc) × PhcText text v
-    pub unsaid : ((v : Phc) → PhcText text v → ⊥) → code ≡ TEXT_INVALID
-    pub shows : (v : Phc) (stored : Stored) → code ≡ OK → PhcText text v → admitted_of bound v ≡ Ok stored
+    pub said : (v : Phc) → IsPhcText text v → code ≡ admit_code bound password secret old_secret v
+    pub found : code ≡ OK → (v : Phc) × IsPhcText text v
+    pub unsaid : ((v : Phc) → IsPhcText text v → ⊥) → code ≡ TEXT_INVALID
+    pub shows : (v : Phc) (stored : StoredValue) → code ≡ OK → IsPhcText text v → admitted_of bound v ≡ Ok stored
         → ShowsFields v shown × ShowsSettings stored.settings shown
     pub faultless : (threads key : ℕ) → code ≡ OK → (key ≡ secret) ⊎ (key ≡ old_secret)
         → IsFaultless (admitted_request threads shown) shown.output_len password shown.salt_len key shown.associated_len

@@ -62,8 +62,8 @@ pub extern "C" fn argon2_c_fill(
     ensures taken { (result ≡ OK) ↔ IsFaultless request.now 4 (length pwd.now) (length salt.now)
         (length secret.now) (length associated.now)
         × (length memory.old ≡ 4 * slice_length (request_context request.now [] [])) }
-    ensures matrix { let ctx = request_context request.now secret.now associated.now in
-        result ≡ OK → blocks_of ctx memory.new ≡ matrix_of ctx pwd.now salt.now 0 }
+    ensures matrix { let context = request_context request.now secret.now associated.now in
+        result ≡ OK → blocks_of context memory.new ≡ matrix_of context pwd.now salt.now 0 }
     ensures refused { result ≢ OK → (result ≡ INCORRECT_PARAMETER) × (memory.new ≡ memory.old) }
 {
     let Some(argon2) = hashing(request, secret, associated.len()) else {

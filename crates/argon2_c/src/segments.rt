@@ -47,8 +47,8 @@ pub extern "C" fn argon2_c_begin(
     ensures taken { (result ≡ OK) ↔ IsFaultless request.now output (length pwd.now) (length salt.now)
         (length secret.now) (length associated.now)
         × (length slice.old ≡ slice_length (request_context request.now [] [])) }
-    ensures begins { result ≡ OK → let ctx = request_context request.now secret.now associated.now in
-        BeginsSlices ctx (first_block ctx pwd.now salt.now output) slice.old slice.new }
+    ensures begins { result ≡ OK → let context = request_context request.now secret.now associated.now in
+        BeginsSlices context (first_block context pwd.now salt.now output) slice.old slice.new }
     ensures refused { result ≢ OK → (result ≡ INCORRECT_PARAMETER) × (slice.new ≡ slice.old) }
 {
     let Some(argon2) = hashing(request, secret, associated.len()) else {

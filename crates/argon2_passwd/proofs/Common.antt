@@ -15,14 +15,14 @@ pub use Rattle.argon2_programs.specs.Locks.{behind_lock, without_lock}
 pub use Rattle.argon2_store.specs.AccountFile.{HasCause, HasFailedBy, IsClosed, Reads}
 pub use Rattle.argon2_passwd.specs.Answers.{AccountFile, AddsEntries, additions, answer_without_text, Appends, AreSaid, behind, Bor, database_of, entries_in, entry_of, entry_or_flaw}
 pub use Rattle.argon2_passwd.specs.Answers.{FileError, Flaw, flaws_from, get, Ghosts, has_name, HasNames, has_text, IsHonest, IsLooked, IsOfFirst, IsOpened, IsOpenFor}
-pub use Rattle.argon2_passwd.specs.Answers.{Keeps, Line, line_has_name, Looks, NameTaken, new_line, new_lines, next_salt, file_failure, OfPassword, option_map, password_of, phc_of, scheme_of}
+pub use Rattle.argon2_passwd.specs.Answers.{Keeps, LineValue, line_has_name, Looks, NameTaken, new_line, new_lines, next_salt, file_failure, OfPassword, option_map, password_of, phc_of, scheme_of}
 pub use Rattle.argon2_passwd.specs.Answers.{AdmitsStored, SaysValue, Serves, Stays, Texts, value_after}
 pub use Rattle.argon2_passwd.specs.Lines.{IsEntryOrFlaw, IsTaken, parts_now, unmarked}
 pub use Rattle.argon2_passwd.specs.Passwords.{IsNotNew, IsUnread, line_of}
 pub use Rattle.argon2_passwd.specs.Answers.{Failure, is_denial, status_of}
-use Rattle.argon2_policy.specs.Policy.{ChangeRefusal, Stream}
+use Rattle.argon2_policy.specs.Policy.{IsChangeRefusal, Stream}
 pub use Rattle.argon2_policy.proofs.PolicyLemmas.{is_text, text_or}
-pub use Rattle.argon2_passwd.specs.Answers.{Denial, Denies, Policy, policy_value, RefusesChange}
+pub use Rattle.argon2_passwd.specs.Answers.{Denial, Denies, PolicyValue, policy_value, RefusesChange}
 use Rattle.argon2_passwd.specs.Answers.{is_refusal}
 
 pub keeps_same : (known : Option (List ℕ)) → Keeps known known
@@ -49,15 +49,15 @@ of_two output input rest same other drops found next it =
     (keeps_same output, (_, found_as input same found, (_, behind_as input rest other drops next, it)))
 
 -- what the lines of the bytes that are read say
-pub said_of : (input : Option (List ℕ)) (any_text : Bool) (read : List ℕ) (said : List Line)
+pub said_of : (input : Option (List ℕ)) (any_text : Bool) (read : List ℕ) (said : List LineValue)
     → IfSome input (λ known. read ≡ known)
     → AreSaid any_text read said → IfSome input (λ bytes. AreSaid any_text bytes said)
 said_of input any_text read said same are =
     IfSome_then input same (λ known all. subst (λ bytes. AreSaid any_text bytes said) all are)
 
 -- why a password is not changed
-pub refuses_change : (policy : Policy) (first second : List ℕ) (stored : Option (List ℕ)) (before after : Stream) (why : Denial)
-    → ChangeRefusal policy first second stored before after why → RefusesChange policy first second stored why
+pub refuses_change : (policy : PolicyValue) (first second : List ℕ) (stored : Option (List ℕ)) (before after : Stream) (why : Denial)
+    → IsChangeRefusal policy first second stored before after why → RefusesChange policy first second stored why
 refuses_change policy first second stored before after why (inl (denies, same)) = inl denies
 refuses_change policy first second stored before after why (inr (admits, making, drawn)) = inr (admits, making)
 

@@ -1,6 +1,6 @@
 -- Look-ups in a file, one after the other.
 use Rattle.argon2_passwd.proofs.Common.{AccountFile, additions, AddsEntries, arith, database_of, entries_in, FileError, Flaw, flaws_from, Ghosts, HasCause, HasFailedBy, HasNames, IfSome_then, inl, inr, has_text, IsClosed}
-use Rattle.argon2_passwd.proofs.Common.{IsHonest, Line, List, Looks, new_lines, None, Option, quiet_then, refl, Result, Serves, Stays, subst, sym, Texts, ℕ, ◌≡◌}
+use Rattle.argon2_passwd.proofs.Common.{IsHonest, LineValue, List, Looks, new_lines, None, Option, quiet_then, refl, Result, Serves, Stays, subst, sym, Texts, ℕ, ◌≡◌}
 use Rattle.sqlite_trees.specs.declared.error.StoreError.{StoreError}
 
 -- the same cause, of other facts
@@ -48,7 +48,7 @@ module _ {S : Type 0} {g : Ghosts S} where
   was_honest error a b (inr looks) names has clean = let quiet = (looks names has).quiet in omega (arith, clean, quiet.clean)
 
   -- entries of lines were to be added, after look-ups
-  pub added : {a b c : AccountFile S g} (ls new : List Line) (answer : Result (Unit {0}) FileError) {es : List (List ℕ × List ℕ)}
+  pub added : {a b c : AccountFile S g} (ls new : List LineValue) (answer : Result (Unit {0}) FileError) {es : List (List ℕ × List ℕ)}
       {passed : List (ℕ × Flaw)} → Looks None a b → Serves (additions es) answer b c
       → (es ≡ entries_in new) × (passed ≡ flaws_from 1 new)
       → ((names : Texts) → HasNames a names → IsHonest g (database_of b) → new ≡ new_lines (has_text names) ls)

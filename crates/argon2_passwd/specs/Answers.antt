@@ -6,13 +6,13 @@ use Rattle.std.specs.Result.{result_map_both}
 pub use Rattle.std.specs.Io.KnownBytes.{Appends, Keeps}
 pub use Rattle.argon2_base.specs.PhcFields.{phc_of}
 use Rattle.argon2_base.specs.PhcText.{phc_text}
-pub use Rattle.rand_core.specs.Stream.{fill_bytes}
+pub use Rattle.argon2.specs.TextHashing.{after_salt, drawn_salt}
 pub use Rattle.sqlite_trees.specs.declared.store.Store.{Ghosts}
 use Rattle.argon2.specs.Login.{accepted_text}
 pub use Rattle.argon2.specs.TextHashing.{IsFresh}
 use Rattle.argon2.specs.declared.login.answers.Accepted.{Accepted}
 use Rattle.argon2.specs.declared.login.answers.Accepted.TheVariants.{Kept, Rehashed}
-pub use Rattle.argon2_policy.specs.Policy.{AdmitsStored, Denies, IsPolicy, LogsIn, MakingRefusal, Policy, SaysValue, policy_value, value_after}
+pub use Rattle.argon2_policy.specs.Policy.{AdmitsStored, Denies, IsPolicy, LogsIn, IsMakingRefusal, PolicyValue, SaysValue, policy_value, value_after}
 pub use Rattle.argon2_programs.specs.Lines.{AppendsFront}
 pub use Rattle.argon2_rows.specs.Names.{IsFirstTaken, Texts, entry_of, get}
 pub use Rattle.argon2_rows.specs.Table.{IsHonest}
@@ -33,7 +33,7 @@ pub use Rattle.argon2_passwd.specs.Passwords.{IsNotNew, IsUnread, password_of}
 pub use Rattle.argon2_passwd.specs.Salts.{IsSalt, next_salt}
 pub use Rattle.argon2_passwd.specs.Failures.{Denial, denial_line, Failure, FileError, IsDenialOf, IsOfWrite, LineError, Params, is_denial, is_refusal, denial_failure, file_failure, lines_failure, status_by, status_of}
 use Rattle.argon2_passwd.specs.Failures.{File, Line as AtLine, Name, Passed}
-pub use Rattle.argon2_passwd.specs.Lines.{AreSaid, Bor, Flaw, IsOfFirst, Line, Phc, PhcText, entries_in, entry_or_flaw, flaws_from, has_name, has_text, line_has_name, new_line, new_lines, scheme_of}
+pub use Rattle.argon2_passwd.specs.Lines.{AreSaid, Bor, Flaw, IsOfFirst, LineValue, Phc, IsPhcText, entries_in, entry_or_flaw, flaws_from, has_name, has_text, line_has_name, new_line, new_lines, scheme_of}
 use Rattle.argon2_passwd.specs.Lines.{Taken, name_flaw}
 use Rattle.argon2_passwd.specs.declared.outside.News.{News}
 pub use Rattle.argon2_passwd.specs.News.{news_of, news_text}
@@ -52,7 +52,7 @@ OfPassword P input =
     (password : List ℕ) × IfSome input (λ bytes. password_of bytes ≡ Some password) × P password
 
 -- a fresh text of the password, which is not empty, with a salt that the system gives
-abbrev pub IsNewText : (List ℕ → Type 0) → Policy → Known → Phc → Type 0
+abbrev pub IsNewText : (List ℕ → Type 0) → PolicyValue → Known → Phc → Type 0
 IsNewText Gives policy input v = OfPassword (λ password. (password ≢ []) × (drawn : List ℕ)
     × IsSalt Gives drawn × IsFresh policy.target password drawn v) input
 
@@ -66,9 +66,9 @@ abbrev pub IsDenied : (Option (List ℕ) → Denial → Type 0) → Option (List
 IsDenied Why stored failure = (why : Denial) × Why stored why × (failure ≡ denial_failure why)
 
 -- why a password is not changed to the second: what is stored refuses the first, or no text is made
-abbrev pub RefusesChange : Policy → List ℕ → List ℕ → Option (List ℕ) → Denial → Type 0
+abbrev pub RefusesChange : PolicyValue → List ℕ → List ℕ → Option (List ℕ) → Denial → Type 0
 RefusesChange policy first second stored why =
-    Denies policy first stored why ⊎ (AdmitsStored policy first stored × MakingRefusal second why)
+    Denies policy first stored why ⊎ (AdmitsStored policy first stored × IsMakingRefusal second why)
 
 -- the secret of the file at a path, if there is one
 abbrev pub IsSecret : (List ℕ → List ℕ → Type 0) → Option (Bor (List ℕ)) → Option (List ℕ) → Type 0
@@ -82,8 +82,8 @@ abbrev pub behind : Known → Known
 behind input = option_map (drop_through 10) input
 
 -- a fact of what the lines of a known input say
-abbrev pub OfLines : Bool → Known → (List Line → Type 0) → Type 0
-OfLines any_text input P = (said : List Line) × IfSome input (λ bytes. AreSaid any_text bytes said) × P said
+abbrev pub OfLines : Bool → Known → (List LineValue → Type 0) → Type 0
+OfLines any_text input P = (said : List LineValue) × IfSome input (λ bytes. AreSaid any_text bytes said) × P said
 
 module _ {S : Type 0} {g : Ghosts S} where
   -- why the entries are not added: a refusal has the line of the first one whose name is taken
@@ -104,15 +104,15 @@ module _ {S : Type 0} {g : Ghosts S} where
 
   -- Names were looked up, and entries of lines were to be added together, with this answer: those whose names neither the
   -- file nor an earlier line has. The other lines have these flaws.
-  abbrev pub AddsEntries : Result (Unit {0}) FileError → List Line → List (ℕ × Flaw) → AccountFile S g → AccountFile S g
+  abbrev pub AddsEntries : Result (Unit {0}) FileError → List LineValue → List (ℕ × Flaw) → AccountFile S g → AccountFile S g
       → Type 0
-  AddsEntries answer ls passed before after = (mid : AccountFile S g) × (new : List Line)
+  AddsEntries answer ls passed before after = (mid : AccountFile S g) × (new : List LineValue)
       × Looks None before mid × Serves (additions (entries_in new)) answer mid after × (passed ≡ flaws_from 1 new)
       × ((names : Texts) → HasNames before names → IsHonest g (database_of after)
       → new ≡ new_lines (has_text names) ls)
 
   -- the entries were added, and the failure has the numbers of the other lines, of which there are some
-  abbrev pub PassesOver : Failure → List Line → AccountFile S g → AccountFile S g → Type 0
+  abbrev pub PassesOver : Failure → List LineValue → AccountFile S g → AccountFile S g → Type 0
   PassesOver (Passed passed) ls before after = (passed.items ≢ []) × AddsEntries (Ok tt) ls passed.items before after
   PassesOver _ ls before after = ⊥
 
@@ -123,7 +123,7 @@ module _ {S : Type 0} {g : Ghosts S} where
 
   -- How an addition of their entries ended. Before a failure that is no refusal, a look-up failed, or the entries were to be
   -- added. If a name that was looked up is taken, the file is damaged.
-  abbrev pub AddsOthers : Outcome → List Line → AccountFile S g → AccountFile S g → Type 0
+  abbrev pub AddsOthers : Outcome → List LineValue → AccountFile S g → AccountFile S g → Type 0
   AddsOthers (Ok _) ls before after = AddsEntries (Ok tt) ls [] before after
   AddsOthers (Err failure) ls before after = PassesOver failure ls before after ⊎ ((status_of failure ≡ 3)
       × (FailsToLook failure before after
@@ -164,7 +164,7 @@ abbrev pub Ends : {X : Type 0} → (Result X Failure → Type 0) → Type 0 → 
 Ends Made untouched result = Made result ⊎ (untouched × IsErrAnd result (λ failure. status_of failure ≡ 3))
 
 -- the words or the input are refused with this failure before a file is opened
-abbrev pub IsUnfit : Policy → Action → Known → Failure → Type 0
+abbrev pub IsUnfit : PolicyValue → Action → Known → Failure → Type 0
 IsUnfit policy Hash input failure = IsNotNew input failure
 IsUnfit policy (Check text) input failure = IsUnread input failure
     ⊎ OfPassword (λ password. IsDenied (Denies policy password) (Some text.now) failure) input
@@ -179,7 +179,7 @@ IsUnfit policy (OnFile path (Import any_text)) input failure =
 IsUnfit policy _ input failure = ⊥
 
 -- a fact of the line that a command writes which opens no file
-abbrev pub OfLine : (List ℕ → Type 0) → Policy → Action → Known → (List ℕ → Type 0) → Type 0
+abbrev pub OfLine : (List ℕ → Type 0) → PolicyValue → Action → Known → (List ℕ → Type 0) → Type 0
 OfLine Gives policy Hash input P = (v : Phc) × IsNewText Gives policy input v × P (phc_text v ++ 10 ∷ [])
 OfLine Gives policy (Check text) input P = OfPassword (λ password.
     (drawn : List ℕ) × (v : Phc) × (did : Accepted) × (w : Phc) × IsSalt Gives drawn × SaysValue (Some text.now) v
@@ -187,7 +187,7 @@ OfLine Gives policy (Check text) input P = OfPassword (λ password.
 OfLine Gives policy _ input P = ⊥
 
 -- How a command ended that opened no file: its answer was said, or nothing, since it is refused before or fails.
-abbrev pub IsAnswered : (List ℕ → Type 0) → Policy → Action → Outcome → Known → Known → Known → Type 0
+abbrev pub IsAnswered : (List ℕ → Type 0) → PolicyValue → Action → Outcome → Known → Known → Known → Type 0
 IsAnswered Gives policy what result input old new = OfLine Gives policy what input (λ line. Says line result old new)
     ⊎ (Keeps old new × IsErrAnd result (λ failure. (status_of failure ≡ 3) ⊎ IsUnfit policy what input failure))
 
@@ -230,7 +230,7 @@ module _ {S : Type 0} (g : Ghosts S) (Has : List ℕ → Texts → Type 0) where
 module _ {S : Type 0} (g : Ghosts S) (Has : List ℕ → Texts → Type 0) (Gives : List ℕ → Type 0) where
   -- A login with the password was all that was done with the file at a path, with this result. If the text accepts the
   -- password, none is replaced, or a call to replace it ended so.
-  abbrev pub IsLogin : Policy → List ℕ → List ℕ → List ℕ → Result Accepted Failure → (List S → Type 0) → Type 0
+  abbrev pub IsLogin : PolicyValue → List ℕ → List ℕ → List ℕ → Result Accepted Failure → (List S → Type 0) → Type 0
   IsLogin policy path name password result Closed =
       IsErrAnd result (IsUnfound g Has (Denies policy password) path name Closed)
       ⊎ ((old drawn : List ℕ) × (v w : Phc) × (did : Accepted) × IsSalt Gives drawn × SaysValue (Some old) v
@@ -241,7 +241,7 @@ module _ {S : Type 0} (g : Ghosts S) (Has : List ℕ → Texts → Type 0) (Give
 
   -- A change of this kind was all that was done with the file at a path, by the passwords of the input and with this
   -- result. That the file can't be opened again is no refusal.
-  abbrev pub IsChange : Policy → List ℕ → EditTask → List ℕ → Known → (List S → Type 0) → Outcome → Type 0
+  abbrev pub IsChange : PolicyValue → List ℕ → EditTask → List ℕ → Known → (List S → Type 0) → Outcome → Type 0
   IsChange policy path Register name input Closed result = (name_flaw name ≡ None)
       × (v : Phc) × IsNewText Gives policy input v × IsApplied g Has path (adding name (phc_text v)) Closed result
   IsChange policy path Change name input Closed result = OfPassword (λ first. OfPassword (λ second. (second ≢ []) × (
@@ -257,7 +257,7 @@ module _ {S : Type 0} (g : Ghosts S) (Has : List ℕ → Texts → Type 0) (Give
   IsChange policy path Unlock name input Closed result = IsApplied g Has path (unlocking name) Closed result
 
   -- all that was done with the file that is named, and how it ended
-  abbrev pub IsUsed : Policy → Action → Outcome → Known → Known → Known → (List S → Type 0) → Type 0
+  abbrev pub IsUsed : PolicyValue → Action → Outcome → Known → Known → Known → (List S → Type 0) → Type 0
   IsUsed policy (OnFile path (Verify name)) result input old new Closed =
       (login : Result Accepted Failure) × SaysLogin login result old new
       × OfPassword (λ password. IsLogin policy path.now name.now password login Closed) input
@@ -279,7 +279,7 @@ module _ {S : Type 0} (g : Ghosts S) (Has : List ℕ → Texts → Type 0) (Give
   IsUsed policy _ result input old new Closed = ⊥
 
   -- how a command ended: its file was used, or no file was opened
-  abbrev pub IsServed : Policy → Action → Outcome → Known → Known → Known → (List S → Type 0) → Type 0
+  abbrev pub IsServed : PolicyValue → Action → Outcome → Known → Known → Known → (List S → Type 0) → Type 0
   IsServed policy what result input old new Closed = IsUsed policy what result input old new Closed
       ⊎ (Closed [] × IsAnswered Gives policy what result input old new)
 

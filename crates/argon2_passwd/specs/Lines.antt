@@ -10,7 +10,7 @@ use Rattle.std.specs.Ordering.{nat_cmp}
 use Rattle.std.specs.Str.{bytes_eq, chars, is_utf8}
 use Rattle.std.specs.Str.Lines.{lines}
 use Rattle.std.specs.FinMap.{get}
-pub use Rattle.argon2_base.specs.PhcText.{Phc, PhcText}
+pub use Rattle.argon2_base.specs.PhcText.{Phc, IsPhcText}
 use Rattle.argon2.specs.StoredTexts.{shown_settings}
 use Rattle.argon2_programs.specs.Prefixes.{after_any, begins_any, without_prefix}
 pub use Rattle.argon2_programs.specs.Schemes.{scheme_of}
@@ -34,7 +34,7 @@ parts_of line = if is_utf8 line then (before_first (λ b. b == 58) line, after_f
 
 -- the text of a value that shows settings of Argon2
 abbrev pub IsArgon2 : List ℕ → Type 0
-IsArgon2 text = (v : Phc) × PhcText text v × IsOk (shown_settings v)
+IsArgon2 text = (v : Phc) × IsPhcText text v × IsOk (shown_settings v)
 
 -- The text has a colon, as only those of Werkzeug do. Behind any other text comes the next field of a line of another program.
 abbrev pub has_field : List ℕ → Bool
@@ -75,7 +75,7 @@ IsForeign text = IsLine text × IsTrue (has_scheme text)
 -- a text outside the grammar, or one that says a value without settings of Argon2; if any is taken, one that is outside the
 -- grammar and of no other scheme
 abbrev pub IsNotTaken : Bool → List ℕ → Type 0
-IsNotTaken false text = ¬ (IsStored text) ⊎ ((v : Phc) × PhcText (without_lock text) v × ¬ (IsOk (shown_settings v)))
+IsNotTaken false text = ¬ (IsStored text) ⊎ ((v : Phc) × IsPhcText (without_lock text) v × ¬ (IsOk (shown_settings v)))
 IsNotTaken true text = ¬ (IsStored text) × ¬ (IsForeign text)
 
 -- what lines say behind a byte order mark
@@ -83,10 +83,10 @@ abbrev pub unmarked : List ℕ → List ℕ
 unmarked input = after_any (mark ∷ []) input
 
 -- what a line says: a name and a text that may be added, or why it has none
-abbrev pub Line : Type 0
-Line = Result (List ℕ × List ℕ) Flaw
+abbrev pub LineValue : Type 0
+LineValue = Result (List ℕ × List ℕ) Flaw
 
-abbrev pub entry_or_flaw : Result (Bor (List ℕ) × StoredText) Flaw → Line
+abbrev pub entry_or_flaw : Result (Bor (List ℕ) × StoredText) Flaw → LineValue
 entry_or_flaw (Ok e) = Ok (entry_of e)
 entry_or_flaw (Err why) = Err why
 
@@ -96,26 +96,26 @@ IsFlaw any_text name text TextLength = 4096 < length text
 IsFlaw any_text name text NoText = (length text ≤ 4096) × IsNotTaken any_text text
 IsFlaw any_text name text why = (length text ≤ 4096) × IsTaken any_text text × (name_flaw name ≡ Some why)
 
-abbrev pub IsEntryOrFlaw : Bool → List ℕ → Line → Type 0
+abbrev pub IsEntryOrFlaw : Bool → List ℕ → LineValue → Type 0
 IsEntryOrFlaw any_text line (Ok e) = IsEntry any_text line e
 IsEntryOrFlaw any_text line (Err why) = IsFlaw any_text (parts_of line).0 (without_prefix (parts_of line).1) why
 
 -- what the lines of an input say
-abbrev pub AreSaid : Bool → List ℕ → List Line → Type 0
+abbrev pub AreSaid : Bool → List ℕ → List LineValue → Type 0
 AreSaid any_text input said = AllZip (IsEntryOrFlaw any_text) (lines (unmarked input)) said
 
 -- the line, unless its name is taken
-abbrev pub new_line : (List ℕ → Bool) → Line → Line
+abbrev pub new_line : (List ℕ → Bool) → LineValue → LineValue
 new_line is_taken (Ok e) = if is_taken e.0 then Err Taken else Ok e
 new_line is_taken (Err why) = Err why
 
 -- the line has this name
-abbrev pub line_has_name : Line → List ℕ → Bool
+abbrev pub line_has_name : LineValue → List ℕ → Bool
 line_has_name (Ok e) name = bytes_eq e.0 name
 line_has_name (Err why) name = false
 
 -- the lines, unless their names are taken, also by an earlier line
-abbrev pub new_lines : (List ℕ → Bool) → List Line → List Line
+abbrev pub new_lines : (List ℕ → Bool) → List LineValue → List LineValue
 new_lines is_taken [] = []
 new_lines is_taken (line ∷ ls) =
     new_line is_taken line ∷ new_lines (λ name. line_has_name line name || is_taken name) ls
@@ -129,13 +129,13 @@ abbrev pub has_text : Texts → List ℕ → Bool
 has_text names name = is_some (get names name)
 
 -- the entries of lines
-abbrev pub entries_in : List Line → List (List ℕ × List ℕ)
+abbrev pub entries_in : List LineValue → List (List ℕ × List ℕ)
 entries_in [] = []
 entries_in (Ok e ∷ ls) = e ∷ entries_in ls
 entries_in (Err why ∷ ls) = entries_in ls
 
 -- the lines without one, by their numbers from this one on
-abbrev pub flaws_from : ℕ → List Line → List (ℕ × Flaw)
+abbrev pub flaws_from : ℕ → List LineValue → List (ℕ × Flaw)
 flaws_from k [] = []
 flaws_from k (Ok e ∷ ls) = flaws_from (suc k) ls
 flaws_from k (Err why ∷ ls) = (k, why) ∷ flaws_from (suc k) ls

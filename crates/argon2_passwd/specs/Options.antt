@@ -2,7 +2,7 @@
 use Rattle.std.specs.Prelude.{List, [], ℕ, Option, max, unwrap_or}
 use Rattle.argon2.specs.Argon2.{argon2id_with, parameters_of}
 use Rattle.argon2.specs.declared.bound.Bound.{Bound}
-use Rattle.argon2_policy.specs.Policy.{Policy}
+use Rattle.argon2_policy.specs.Policy.{PolicyValue}
 use Rattle.argon2_passwd.specs.declared.options.Options.{Options}
 
 -- the bound that is given; if none is, 2 GiB, 64 passes and 64 lanes, each no less than the parameter
@@ -14,7 +14,7 @@ bound_or_default options = unwrap_or options.bound (record {
 })
 
 -- Argon2id of version 0x13 under the parameters and a secret, with an old one, if there are such, and a bound
-abbrev pub policy_by : Options → Option (List ℕ) → Option (List ℕ) → Policy
+abbrev pub policy_by : Options → Option (List ℕ) → Option (List ℕ) → PolicyValue
 policy_by options secret old = record {
   target = record { settings = argon2id_with (parameters_of options.params); secret = unwrap_or secret [] };
   old_secret = old;

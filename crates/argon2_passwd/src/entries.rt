@@ -33,7 +33,7 @@ pub fn read_all<R: BufRead>(alloc: Global, input: &mut R) -> Result<Vec<u8>, Fai
 /// A text that may be added: one of Argon2 with valid settings; if any is taken, one in the grammar, or of another scheme.
 pub fn stored(text: &str, any_text: bool) -> Option<StoredText<'_>>
     ensures { MatchOption result (IsNotTaken any_text text.now)
-        (λ it. (it.text.now ≡ text.now) × IsTaken any_text text.now) }
+        (λ it. (text_in it ≡ text.now) × IsTaken any_text text.now) }
 {
     match StoredText::new(text) {
         Ok((text, hash)) if any_text || Settings::try_from(&hash).is_ok() => Some(text),

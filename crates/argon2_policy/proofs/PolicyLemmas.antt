@@ -13,18 +13,18 @@ use Rattle.argon2.specs.declared.version.Version.{Version}
 use Rattle.argon2.specs.TextHashing.{IsHashAnswer, hash_value}
 use Rattle.argon2.specs.Rfc9106.{segment_length_for}
 use Rattle.argon2.specs.Settings.{Parameters, algorithm_name}
-use Rattle.argon2.specs.StoredTexts.{Stored, is_tag, result_and_then, stored_of}
+use Rattle.argon2.specs.StoredTexts.{StoredValue, is_tag, result_and_then, stored_of}
 use Rattle.argon2.proofs.login_lemmas.LoginLemmas.{hash_made}
 use Rattle.argon2.proofs.password_hash_lemmas.MadeValues.{made_accepts, made_shows}
 use Rattle.argon2.proofs.password_hash_lemmas.Verified.{exact}
 use Rattle.argon2.specs.declared.bound.BoundError.TheVariants as bound
-use Rattle.argon2_policy.specs.Policy.{AcceptsBy, AsksWithin, Bound, BoundError, Denial, Error, HashRefusal, IsDenial, IsFresh, IsWithin, OutOfMemory, Phc, Refused, Settings, Target, TooExpensive}
+use Rattle.argon2_policy.specs.Policy.{AcceptsBy, AsksWithin, Bound, BoundError, Denial, Error, IsHashRefusal, IsDenial, IsFresh, IsWithin, OutOfMemory, Phc, Refused, SettingsValue, TargetValue, TooExpensive}
 use Rattle.argon2_policy.specs.Policy.{IsAged, IsHashedFor, IsOutdated, IsShut, Recent, SaysValue, hashes_of_wrong, shown_settings, text_of}
 use Rattle.argon2_policy.specs.Denials.{Locked, NameUnknown, OtherScheme}
 use Rattle.argon2_policy.specs.declared.policy.Age.{Age}
 use Rattle.argon2_programs.specs.Schemes.{scheme_of}
 use Rattle.argon2_programs.specs.declared.schemes.Scheme.{Scheme}
-pub use Rattle.argon2_policy.specs.Policy.{Admits, AdmitsStored, IsFound, IsVerifyAnswer, IsPolicy, Outdated, PasswordInvalid, Policy, SecretsRefusal, fill_bytes, phc_of, policy_value}
+pub use Rattle.argon2_policy.specs.Policy.{Admits, AdmitsStored, IsFound, IsVerifyAnswer, IsPolicy, Outdated, PasswordInvalid, PolicyValue, IsSecretsRefusal, drawn_salt, phc_of, policy_value}
 
 -- ---- the bound
 
@@ -33,14 +33,14 @@ unfolding segment_length_for
 filled_within m p most within = let least = div-mul-le_self m (4 * p) in grind arith
 
 shown_parameters : (r : Result Parameters Fault) (algorithm : Option Algorithm) (version : Option Version)
-    (settings : Settings) → result_and_then r (λ parameters. result_and_then (ok_or algorithm bad_algorithm) (λ own.
+    (settings : SettingsValue) → result_and_then r (λ parameters. result_and_then (ok_or algorithm bad_algorithm) (λ own.
     result_and_then (ok_or version bad_version) (λ number.
     Ok (record { algorithm = own; version = number; parameters = parameters })))) ≡ Ok settings
     → r ≡ Ok settings.parameters
 shown_parameters r algorithm version settings is = grind arith
 
 -- a value that shows costs within the bound
-asks_within : (bound : Bound) (v : Phc) (settings : Settings) → shown_settings v ≡ Ok settings
+asks_within : (bound : Bound) (v : Phc) (settings : SettingsValue) → shown_settings v ≡ Ok settings
     → IsWithin bound settings.parameters → AsksWithin bound v
 asks_within bound v settings shows within = record {
   parameters = settings.parameters;
@@ -50,13 +50,13 @@ asks_within bound v settings shows within = record {
 }
 
 -- a value that is not admitted asks for more, or for nothing that can be read
-refused_asks : (bound : Bound) (v : Phc) (e : BoundError) → HashRefusal bound v e → ¬ (AsksWithin bound v)
+refused_asks : (bound : Bound) (v : Phc) (e : BoundError) → IsHashRefusal bound v e → ¬ (AsksWithin bound v)
 refused_asks bound v e why asks = let a = asks.asked in let w = asks.within in grind arith
 
 -- ---- fresh values
 
 -- a hash that was answered is a fresh one
-pub is_fresh : (target : Target) (password drawn : List ℕ) (h : PasswordHash) → IsHashAnswer target password drawn (Ok h)
+pub is_fresh : (target : TargetValue) (password drawn : List ℕ) (h : PasswordHash) → IsHashAnswer target password drawn (Ok h)
     → IsFresh target password drawn (phc_of h)
 is_fresh target password drawn h answer =
     let same = hash_made target password drawn h answer in ((rw same at h.grammatical).salt, grind (arith, nat_tests), same)
@@ -72,11 +72,11 @@ no_other_scheme Argon2d rest = refl
 no_other_scheme Argon2i rest = refl
 no_other_scheme Argon2id rest = refl
 
-is_argon2 : (target : Target) (password salt : List ℕ) → scheme_of (phc_text (hash_value target password salt)) ≡ None
+is_argon2 : (target : TargetValue) (password salt : List ℕ) → scheme_of (phc_text (hash_value target password salt)) ≡ None
 is_argon2 target password salt =
     no_other_scheme target.settings.algorithm (fields_text (behind_name (hash_value target password salt)))
 
-module _ (policy : Policy) (is : IsPolicy policy) (password drawn : List ℕ) where
+module _ (policy : PolicyValue) (is : IsPolicy policy) (password drawn : List ℕ) where
   fresh_value : (w : Phc) → IsFresh policy.target password drawn w → Admits policy password w
   fresh_value w fresh = (
     asks_within policy.bound w _ (made_shows policy.target is.is_target password drawn w fresh.2) is.within,
@@ -109,11 +109,11 @@ pub wrong : (secret password : List ℕ) (v : Phc) → IsVerifyAnswer secret pas
 wrong secret password v answer = let why = exact secret password v (Err PasswordInvalid) answer in grind arith
 
 -- what a value comes to by such a test of its hash
-abbrev judged : (Stored → Bool) → Result Stored Fault → Result (Unit {0}) Fault
+abbrev judged : (StoredValue → Bool) → Result StoredValue Fault → Result (Unit {0}) Fault
 judged is_right r = result_and_then r (λ stored. if is_right stored then Ok tt else Err bad_password)
 
 -- what is wrong with the value itself is wrong under any secret
-same_fault : (one other : Stored → Bool) (r : Result Stored Fault) (e : Error) → e ≢ PasswordInvalid
+same_fault : (one other : StoredValue → Bool) (r : Result StoredValue Fault) (e : Error) → e ≢ PasswordInvalid
     → Err (fault_of e) ≡ judged one r → Err (fault_of e) ≡ judged other r
 same_fault one other r e differs is = grind arith
 
@@ -126,10 +126,10 @@ under_any secret other password v e differs (inr memory) = inr memory
 neither : {M A B C : Type 0} → M ⊎ ¬ A → M ⊎ ¬ C → M ⊎ ¬ (A ⊎ (B × C))
 neither a c = grind arith
 
-fault_first : (r : Result Stored Fault) (is_right : Stored → Bool) (fault : Fault) → r ≡ Err fault → Err fault ≡ judged is_right r
+fault_first : (r : Result StoredValue Fault) (is_right : StoredValue → Bool) (fault : Fault) → r ≡ Err fault → Err fault ≡ judged is_right r
 fault_first r is_right fault is = grind arith
 
-module _ (policy : Policy) (password : List ℕ) (v : Phc) where
+module _ (policy : PolicyValue) (password : List ℕ) (v : Phc) where
   not_by_old : (o : Option (List ℕ)) (e : Error)
       → ((secret : List ℕ) → o ≡ Some secret → IsVerifyAnswer secret password v (Err e))
       → (e ≡ OutOfMemory) ⊎ ¬ (IsSomeAnd o (λ secret. AcceptsBy secret password v))
@@ -141,12 +141,12 @@ module _ (policy : Policy) (password : List ℕ) (v : Phc) where
       → (e ≡ OutOfMemory) ⊎ ¬ (AcceptsBy secret password v)
   unread e is secret = exact secret password v (Err e) (inl (fault_first (stored_of v) (is_tag secret password) (fault_of e) is))
 
-  not_by_target : (e : Error) → SecretsRefusal policy password v e
+  not_by_target : (e : Error) → IsSecretsRefusal policy password v e
       → (e ≡ OutOfMemory) ⊎ ¬ (AcceptsBy policy.target.secret password v)
   not_by_target e (inl why) = exact policy.target.secret password v (Err e) why.0
   not_by_target e (inr why) = inr (wrong policy.target.secret password v why.0)
 
-  not_by_either : (e : Error) → SecretsRefusal policy password v e
+  not_by_either : (e : Error) → IsSecretsRefusal policy password v e
       → (e ≡ OutOfMemory) ⊎ ¬ (IsSomeAnd policy.old_secret (λ secret. AcceptsBy secret password v))
   not_by_either e why = not_by_old policy.old_secret e
       (λ secret is. grind (arith, under_any policy.target.secret secret password v e))
@@ -176,7 +176,7 @@ says_nothing None why shut v says = says
 says_nothing (Some text) why shut v says = let locked = says.0 in let scheme = says.1 in let is = says.2 in grind arith
 
 -- what is shut is refused for another reason than memory or the bound
-module _ (policy : Policy) (n : ℕ) (is : n ≡ hashes_of_wrong policy) where
+module _ (policy : PolicyValue) (n : ℕ) (is : n ≡ hashes_of_wrong policy) where
   hashed_for_scheme : (o : Option Scheme) (why : Denial) → IsSomeAnd o (λ scheme. why ≡ OtherScheme scheme)
       → IsHashedFor policy why n
   hashed_for_scheme None why some = absurd some
@@ -200,7 +200,7 @@ text_or None v other r is says = absurd says
 text_or (Some text) v other r is says = rw is refl
 
 -- what is stored says this value alone, which refuses the password
-pub not_admitted : {X : Type 0} (policy : Policy) (password : List ℕ) (stored : Option (List ℕ)) (v : Phc) (r : Result X Denial)
+pub not_admitted : {X : Type 0} (policy : PolicyValue) (password : List ℕ) (stored : Option (List ℕ)) (v : Phc) (r : Result X Denial)
     → ((w : Phc) → SaysValue stored w → v ≡ w) → IfErr r (IsDenial policy password v)
     → IfErr r (λ why. (why ≡ Refused OutOfMemory) ⊎ ¬ (AdmitsStored policy password stored))
 not_admitted policy password stored v (Ok x) only denies = tt
@@ -215,7 +215,7 @@ err_is r e is = grind arith
 
 -- ---- a value that is verified
 
-shown_of : (salt hash : Option (List ℕ)) (r : Result Settings Fault) (stored : Stored)
+shown_of : (salt hash : Option (List ℕ)) (r : Result SettingsValue Fault) (stored : StoredValue)
     → result_and_then (ok_or salt bad_password) (λ salt. result_and_then (ok_or hash bad_password) (λ hash.
     result_and_then r (λ settings. Ok (record { settings = settings; salt = salt; hash = hash })))) ≡ Ok stored
     → r ≡ Ok stored.settings
@@ -228,7 +228,7 @@ is_wrong_fault e is_right r is same = grind arith
 is_memory_fault : (e : Error) (r : Result (Unit {0}) Fault) → r ≡ Err no_memory → r ≡ Err (fault_of e) → e ≡ OutOfMemory
 is_memory_fault e r is same = grind arith
 
-module _ (policy : Policy) (password : List ℕ) (v : Phc) (stored : Stored) (is : stored_of v ≡ Ok stored) where
+module _ (policy : PolicyValue) (password : List ℕ) (v : Phc) (stored : StoredValue) (is : stored_of v ≡ Ok stored) where
   pub shows : shown_settings v ≡ Ok stored.settings
   shows = shown_of v.salt v.hash (shown_settings v) stored is
 
@@ -263,14 +263,14 @@ module _ (policy : Policy) (password : List ℕ) (v : Phc) (stored : Stored) (is
   memory_or_wrong secret e (inr (same, read)) = inr (is_memory_fault e _ same refl)
 
 -- a value that accepts is admitted
-pub admits_found : (policy : Policy) (password : List ℕ) (v : Phc) (age : Age) → AsksWithin policy.bound v
+pub admits_found : (policy : PolicyValue) (password : List ℕ) (v : Phc) (age : Age) → AsksWithin policy.bound v
     → IsFound policy password v age → Admits policy password v
 admits_found policy password v Recent within found = (within, inl found.0)
 admits_found policy password v Outdated within (inl by_target) = (within, inl by_target.0)
 admits_found policy password v Outdated within (inr by_old) = (within, inr by_old)
 
 -- a value that does not stay is outdated
-pub outdated : (policy : Policy) (password : List ℕ) (v : Phc) (age : Age) → age ≢ Recent → IsFound policy password v age
+pub outdated : (policy : PolicyValue) (password : List ℕ) (v : Phc) (age : Age) → age ≢ Recent → IsFound policy password v age
     → IsOutdated policy password v
 outdated policy password v Recent isnt found = absurd (isnt refl)
 outdated policy password v Outdated isnt found = found
@@ -279,7 +279,7 @@ at_least_once : (o : Option (List ℕ)) (n : ℕ) → n ≡ 1 → n ≤ (if is_s
 at_least_once o n once = grind arith
 
 -- without memory a password is hashed once
-pub hashed_once : (policy : Policy) (e : Error) (n : ℕ) → (e ≡ PasswordInvalid) ⊎ (e ≡ OutOfMemory) → e ≢ PasswordInvalid → n ≡ 1
+pub hashed_once : (policy : PolicyValue) (e : Error) (n : ℕ) → (e ≡ PasswordInvalid) ⊎ (e ≡ OutOfMemory) → e ≢ PasswordInvalid → n ≡ 1
     → IsHashedFor policy (Refused e) n
 hashed_once policy e n (inl wrong) isnt once = absurd (isnt wrong)
 hashed_once policy e n (inr memory) isnt once = rw memory (at_least_once policy.old_secret n once)

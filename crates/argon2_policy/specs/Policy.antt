@@ -1,16 +1,16 @@
 -- What callers see of a policy, and what its calls make of what a text says. The words that the contracts share are passed on.
 use Rattle.std.specs.Prelude.{◌≡◌, ◌≢◌, ◌⊎◌, ℕ, ◌≤◌, ◌<◌, List, if◌then◌else◌, Option, None, IsSomeAnd, Result, Ok, Err}
 use Rattle.std.specs.Option.{is_some, option_map}
-pub use Rattle.rand_core.specs.Stream.{Stream, fill_bytes}
+pub use Rattle.rand_core.specs.Stream.{Stream}
 pub use Rattle.argon2_base.specs.PhcText.{Phc}
 pub use Rattle.argon2_base.specs.declared.error.password_hash.Error.{Error}
 pub use Rattle.argon2_base.specs.PhcFields.{phc_of, text_of}
 pub use Rattle.argon2_base.specs.declared.error.password_hash.Error.TheVariants.{OutOfMemory, OutputSize, PasswordInvalid}
 use Rattle.argon2.specs.Argon2.{secret_of}
-pub use Rattle.argon2.specs.Bound.{AsksWithin, HashRefusal, IsWithin, StoredRefusal}
-pub use Rattle.argon2.specs.TextHashing.{HashingRefusal, IsFresh, IsTarget, Target, tag_length, target_of}
+pub use Rattle.argon2.specs.Bound.{AsksWithin, IsHashRefusal, IsWithin, IsStoredRefusal}
+pub use Rattle.argon2.specs.TextHashing.{IsHashingRefusal, IsFresh, IsTarget, TargetValue, after_salt, drawn_salt, tag_length, target_of}
 pub use Rattle.argon2.specs.Refusals.{max_len}
-pub use Rattle.argon2.specs.Settings.{Settings}
+pub use Rattle.argon2.specs.Settings.{SettingsValue}
 pub use Rattle.argon2.specs.NamedTexts.{accepted_by, stream_after, value_after}
 pub use Rattle.argon2.specs.StoredTexts.{AcceptsBy, IsVerifyAnswer, settings_value, shown_settings}
 pub use Rattle.argon2.specs.declared.bound.Bound.{Bound}
@@ -22,40 +22,40 @@ pub use Rattle.argon2_policy.specs.Denials.{Denial, Refused, TooExpensive}
 pub use Rattle.argon2_policy.specs.StoredFor.{IsShut, SaysValue}
 use Rattle.argon2_policy.specs.declared.policy.Age.{Age}
 pub use Rattle.argon2_policy.specs.declared.policy.Age.TheVariants.{Outdated, Recent}
-use Rattle.argon2_policy.specs.declared.policy.Policy.{Policy as OwnPolicy}
+use Rattle.argon2_policy.specs.declared.policy.Policy.{Policy}
 
 -- what passwords are hashed and verified under: a target, a secret that was in use before, if one is given, and a bound
-pub record Policy : Type 0 where
-  pub target : Target
+pub record PolicyValue : Type 0 where
+  pub target : TargetValue
   pub old_secret : Option (List ℕ)
   pub bound : Bound
 
 -- hashes fit into texts, and the target asks for no more than the bound
-pub record IsPolicy (policy : Policy) : Type 0 where
+pub record IsPolicy (policy : PolicyValue) : Type 0 where
   pub is_target : IsTarget policy.target
   pub within : IsWithin policy.bound policy.target.settings.parameters
 
 -- what a contract sees of the code's policy
-abbrev pub policy_value : OwnPolicy → Policy
+abbrev pub policy_value : Policy → PolicyValue
 policy_value own =
     record { target = target_of own.target; old_secret = option_map secret_of own.old; bound = own.bound }
 
 -- why there is no policy of a target and a bound
-abbrev pub PolicyRefusal : Target → Bound → BoundError → Type 0
-PolicyRefusal target most (bound.Refused e) = (e ≡ OutputSize) × (64 < tag_length target.settings)
-PolicyRefusal target most bound.TooExpensive =
+abbrev pub IsPolicyRefusal : TargetValue → Bound → BoundError → Type 0
+IsPolicyRefusal target most (bound.Refused e) = (e ≡ OutputSize) × (64 < tag_length target.settings)
+IsPolicyRefusal target most bound.TooExpensive =
     (tag_length target.settings ≤ 64) × ¬ (IsWithin most target.settings.parameters)
 
 -- a policy of a target and a bound without an old secret, or the refusal
-abbrev pub IsNewPolicy : Target → Bound → Result OwnPolicy BoundError → Type 0
+abbrev pub IsNewPolicy : TargetValue → Bound → Result Policy BoundError → Type 0
 IsNewPolicy target bound (Ok own) = IsPolicy (policy_value own)
     × (policy_value own ≡ record { target = target; old_secret = None; bound = bound })
-IsNewPolicy target bound (Err e) = PolicyRefusal target bound e
+IsNewPolicy target bound (Err e) = IsPolicyRefusal target bound e
 
 -- ---- whether a text may stay
 
 -- settings that differ from a target's at most by higher costs and a longer hash
-pub record AreNoWeaker (target shown : Settings) : Type 0 where
+pub record AreNoWeaker (target shown : SettingsValue) : Type 0 where
   pub algorithm : shown.algorithm ≡ target.algorithm
   pub version : shown.version ≡ target.version
   pub m_cost : target.parameters.m_cost ≤ shown.parameters.m_cost
@@ -66,30 +66,30 @@ pub record AreNoWeaker (target shown : Settings) : Type 0 where
   pub associated : shown.parameters.associated ≡ target.parameters.associated
 
 -- the value shows such settings
-abbrev pub IsNoWeaker : Target → Phc → Type 0
-IsNoWeaker target v = (shown : Settings) × (shown_settings v ≡ Ok shown) × AreNoWeaker target.settings shown
+abbrev pub IsNoWeaker : TargetValue → Phc → Type 0
+IsNoWeaker target v = (shown : SettingsValue) × (shown_settings v ≡ Ok shown) × AreNoWeaker target.settings shown
 
 -- ---- whether a password is accepted
 
 -- the old secret accepts, and the target's does not
-abbrev pub AcceptsByOld : Policy → List ℕ → Phc → Type 0
+abbrev pub AcceptsByOld : PolicyValue → List ℕ → Phc → Type 0
 AcceptsByOld policy password v = ¬ (AcceptsBy policy.target.secret password v)
     × IsSomeAnd policy.old_secret (λ secret. AcceptsBy secret password v)
 
 -- the value asks for no more than the bound, and one of the secrets accepts the password
-abbrev pub Admits : Policy → List ℕ → Phc → Type 0
+abbrev pub Admits : PolicyValue → List ℕ → Phc → Type 0
 Admits policy password v = AsksWithin policy.bound v
     × (AcceptsBy policy.target.secret password v ⊎ AcceptsByOld policy password v)
 
 -- the value accepts the password, but is weaker than the target, or under the old secret
-abbrev pub IsOutdated : Policy → List ℕ → Phc → Type 0
+abbrev pub IsOutdated : PolicyValue → List ℕ → Phc → Type 0
 IsOutdated policy password v =
     (AcceptsBy policy.target.secret password v × ¬ (IsNoWeaker policy.target v)) ⊎ AcceptsByOld policy password v
 
 -- why no secret accepts: the target's does not, for this reason; if that is a wrong password and there is an old
 -- secret, that does not, for this reason
-abbrev pub SecretsRefusal : Policy → List ℕ → Phc → Error → Type 0
-SecretsRefusal policy password v e = let first = IsVerifyAnswer policy.target.secret password v in
+abbrev pub IsSecretsRefusal : PolicyValue → List ℕ → Phc → Error → Type 0
+IsSecretsRefusal policy password v e = let first = IsVerifyAnswer policy.target.secret password v in
     (first (Err e) × ((e ≢ PasswordInvalid) ⊎ (policy.old_secret ≡ None)))
     ⊎ (first (Err PasswordInvalid)
     × IsSomeAnd policy.old_secret (λ secret. IsVerifyAnswer secret password v (Err e)))
@@ -97,27 +97,27 @@ SecretsRefusal policy password v e = let first = IsVerifyAnswer policy.target.se
 -- ---- what is stored for a name
 
 -- what is stored accepts the password within the bound
-abbrev pub AdmitsStored : Policy → List ℕ → Option (List ℕ) → Type 0
+abbrev pub AdmitsStored : PolicyValue → List ℕ → Option (List ℕ) → Type 0
 AdmitsStored policy password stored = (v : Phc) × SaysValue stored v × Admits policy password v
 
 -- why a value refuses a password: it can't be verified or is above the bound, or no secret accepts
-abbrev pub IsDenial : Policy → List ℕ → Phc → Denial → Type 0
-IsDenial policy password v TooExpensive = HashRefusal policy.bound v bound.TooExpensive
-IsDenial policy password v (Refused e) = StoredRefusal policy.bound v (bound.Refused e)
-    ⊎ (AsksWithin policy.bound v × SecretsRefusal policy password v e)
+abbrev pub IsDenial : PolicyValue → List ℕ → Phc → Denial → Type 0
+IsDenial policy password v TooExpensive = IsHashRefusal policy.bound v bound.TooExpensive
+IsDenial policy password v (Refused e) = IsStoredRefusal policy.bound v (bound.Refused e)
+    ⊎ (AsksWithin policy.bound v × IsSecretsRefusal policy password v e)
 IsDenial policy password v _ = ⊥
 
 -- why what is stored refuses a password
-abbrev pub Denies : Policy → List ℕ → Option (List ℕ) → Denial → Type 0
+abbrev pub Denies : PolicyValue → List ℕ → Option (List ℕ) → Denial → Type 0
 Denies policy password stored why = IsShut stored why ⊎ ((v : Phc) × SaysValue stored v × IsDenial policy password v why)
 
 -- how often a wrong password is hashed: once, and once more under an old secret
-abbrev pub hashes_of_wrong : Policy → ℕ
+abbrev pub hashes_of_wrong : PolicyValue → ℕ
 hashes_of_wrong policy = if is_some policy.old_secret then 2 else 1
 
 -- how often a password is hashed that is refused for this reason: as often as a wrong one, unless the text is above the bound or
 -- memory is refused
-abbrev pub IsHashedFor : Policy → Denial → ℕ → Type 0
+abbrev pub IsHashedFor : PolicyValue → Denial → ℕ → Type 0
 IsHashedFor policy TooExpensive n = n ≡ 0
 IsHashedFor policy (Refused OutOfMemory) n = n ≤ hashes_of_wrong policy
 IsHashedFor policy why n = n ≡ hashes_of_wrong policy
@@ -125,17 +125,17 @@ IsHashedFor policy why n = n ≡ hashes_of_wrong policy
 -- ---- what calls answer, and what they make of a value
 
 -- whether a value that the target's secret accepts stays
-abbrev pub IsAged : Target → Phc → Age → Type 0
+abbrev pub IsAged : TargetValue → Phc → Age → Type 0
 IsAged target v Recent = IsNoWeaker target v
 IsAged target v Outdated = ¬ (IsNoWeaker target v)
 
 -- a value that accepts a password: it stays, or is to be made anew
-abbrev pub IsFound : Policy → List ℕ → Phc → Age → Type 0
+abbrev pub IsFound : PolicyValue → List ℕ → Phc → Age → Type 0
 IsFound policy password v Recent = AcceptsBy policy.target.secret password v × IsNoWeaker policy.target v
 IsFound policy password v Outdated = IsOutdated policy password v
 
 -- a login
-abbrev pub LogsIn : Policy → List ℕ → List ℕ → Phc → Accepted → Phc → Type 0
+abbrev pub LogsIn : PolicyValue → List ℕ → List ℕ → Phc → Accepted → Phc → Type 0
 LogsIn policy password drawn v Current w = AsksWithin policy.bound v
     × AcceptsBy policy.target.secret password v × IsNoWeaker policy.target v × (w ≡ v)
 LogsIn policy password drawn v Rehashed w =
@@ -144,12 +144,12 @@ LogsIn policy password drawn v Kept w =
     AsksWithin policy.bound v × IsOutdated policy password v × (w ≡ v)
 
 -- why no text is made of a password
-abbrev pub MakingRefusal : List ℕ → Denial → Type 0
-MakingRefusal password (Refused e) = HashingRefusal password e
-MakingRefusal password _ = ⊥
+abbrev pub IsMakingRefusal : List ℕ → Denial → Type 0
+IsMakingRefusal password (Refused e) = IsHashingRefusal password e
+IsMakingRefusal password _ = ⊥
 
 -- Why a password is not changed, and what the generator has left then: the old one is verified first, and 16 bytes are drawn
 -- once it is accepted.
-abbrev pub ChangeRefusal : Policy → List ℕ → List ℕ → Option (List ℕ) → Stream → Stream → Denial → Type 0
-ChangeRefusal policy old password stored before after why = (Denies policy old stored why × (after ≡ before))
-    ⊎ (AdmitsStored policy old stored × MakingRefusal password why × (after ≡ (fill_bytes 16 before).1))
+abbrev pub IsChangeRefusal : PolicyValue → List ℕ → List ℕ → Option (List ℕ) → Stream → Stream → Denial → Type 0
+IsChangeRefusal policy old password stored before after why = (Denies policy old stored why × (after ≡ before))
+    ⊎ (AdmitsStored policy old stored × IsMakingRefusal password why × (after ≡ after_salt before))

@@ -43,8 +43,8 @@ pub struct Policy<'key> {
 impl<'key> Policy<'key> {
     ghost use Rattle.std.specs.Prelude.{◌≡◌, ◌≢◌, ◌⊎◌, ◌↔◌, ◌≤◌, ◌<◌, Some, Ok, IsSome, IsTrue, IfSome, IfOk, IfErr, MatchResult, length, option_copied};
     ghost use Rattle.argon2_base.specs.declared.error.Error.TheVariants.{SecretTooLong};
-    ghost use Rattle.argon2_policy.specs.Policy.{AdmitsStored, AreNoWeaker, AsksWithin, ChangeRefusal, Denies, HashingRefusal, IsAged, IsDenial, IsFound, IsFresh, IsHashedFor, IsNewPolicy, IsNoWeaker, LogsIn, Phc};
-    ghost use Rattle.argon2_policy.specs.Policy.{OutOfMemory, Refused, Rehashed, SaysValue, accepted_by, fill_bytes, hashes_of_wrong, max_len, phc_of, policy_value, settings_value, shown_settings, stream_after, text_of, value_after};
+    ghost use Rattle.argon2_policy.specs.Policy.{AdmitsStored, AreNoWeaker, AsksWithin, IsChangeRefusal, Denies, IsHashingRefusal, IsAged, IsDenial, IsFound, IsFresh, IsHashedFor, IsNewPolicy, IsNoWeaker, LogsIn, Phc};
+    ghost use Rattle.argon2_policy.specs.Policy.{OutOfMemory, Refused, Rehashed, SaysValue, accepted_by, after_salt, drawn_salt, hashes_of_wrong, max_len, phc_of, policy_value, settings_value, shown_settings, stream_after, text_of, value_after};
 
     /// A policy of a target and a bound, without an old secret. Its calls allocate from `alloc`; this one
     /// allocates nothing.
@@ -110,13 +110,13 @@ impl<'key> Policy<'key> {
     pub fn hash_password<R: Rng>(&self, rng: &mut R, password: &[u8]) -> Result<PasswordHash, Error>
         ensures made { MatchResult result
             (λ text. IsFresh (policy_value self.now).target password.now
-            (fill_bytes 16 (R.stream rng.old)).0 (phc_of text))
-            (HashingRefusal password.now) }
+            (drawn_salt (R.stream rng.old)) (phc_of text))
+            (IsHashingRefusal password.now) }
         ensures accepted { IfOk result (λ text.
             AdmitsStored (policy_value self.now) password.now (Some (text_of text))) }
         ensures current { IfOk result (λ text.
             IsNoWeaker (policy_value self.now).target (phc_of text)) }
-        ensures drawn { R.stream rng.new ≡ (fill_bytes 16 (R.stream rng.old)).1 }
+        ensures drawn { R.stream rng.new ≡ after_salt (R.stream rng.old) }
     {
         self.target.hash_password(self.alloc, rng, password)
     }
@@ -151,7 +151,7 @@ impl<'key> Policy<'key> {
     ) -> Result<LoggedIn, Denial>
         ensures step { let text = option_copied stored.entry in MatchResult result
             (λ done. (v : Phc) × SaysValue text v × LogsIn (policy_value self.now) password.now
-            (fill_bytes 16 (R.stream rng.old)).0 v done.accepted (value_after v done.fresh))
+            (drawn_salt (R.stream rng.old)) v done.accepted (value_after v done.fresh))
             (Denies (policy_value self.now) password.now text) }
         ensures fresh { IfOk result (λ done. IsSome done.fresh ↔ (done.accepted ≡ Rehashed)) }
         ensures accepted { let text = option_copied stored.entry in MatchResult result
@@ -199,9 +199,9 @@ impl<'key> Policy<'key> {
     ) -> Result<PasswordHash, Denial>
         ensures made { let text = option_copied stored.entry in let before = R.stream rng.old in MatchResult result
             (λ fresh. AdmitsStored (policy_value self.now) old.now text
-            × IsFresh (policy_value self.now).target new.now (fill_bytes 16 before).0 (phc_of fresh)
-            × (R.stream rng.new ≡ (fill_bytes 16 before).1))
-            (ChangeRefusal (policy_value self.now) old.now new.now text before (R.stream rng.new)) }
+            × IsFresh (policy_value self.now).target new.now (drawn_salt before) (phc_of fresh)
+            × (R.stream rng.new ≡ after_salt before))
+            (IsChangeRefusal (policy_value self.now) old.now new.now text before (R.stream rng.new)) }
         ensures accepted { IfOk result (λ fresh.
             AdmitsStored (policy_value self.now) new.now (Some (text_of fresh))) }
     {

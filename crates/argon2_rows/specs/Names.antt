@@ -22,7 +22,7 @@ changed names name (Some text) = insert names name text
 
 -- a name and its text
 abbrev pub entry_of : Bor (List ℕ) × StoredText → List ℕ × List ℕ
-entry_of e = (e.0.now, e.1.text.now)
+entry_of e = (e.0.now, text_in e.1)
 
 -- none of the names is there, and each is added
 abbrev pub AddsAll : Texts → List (List ℕ × List ℕ) → Texts → Type 0

@@ -77,8 +77,8 @@ breaks_line Names name = false
 breaks_line Texts name = list_any (λ b. b == 10) name || list_any (λ b. b == 58) name
 
 -- none of the names breaks its line
-abbrev pub FitLines : View → List (List ℕ × List ℕ) → Type 0
-FitLines view es = All (λ e. breaks_line view e.0 ≡ false) es
+abbrev pub AreFitLines : View → List (List ℕ × List ℕ) → Type 0
+AreFitLines view es = All (λ e. breaks_line view e.0 ≡ false) es
 
 -- what writing the line of a name did: a name that breaks it has written nothing, and a failure a front of the line
 abbrev pub IsLineOf : View → List ℕ × List ℕ → Option (List ℕ) → Option (List ℕ) → Written → Type 0
@@ -89,12 +89,12 @@ IsLineOf view e old new (Failed why) = AppendsFront old new (line view e) × (br
 -- the lines of these names are written, or those before the first name that breaks it, and no more; or writing failed, and a
 -- front is there of such lines
 abbrev pub AreLinesOf : View → List (List ℕ × List ℕ) → Option (List ℕ) → Option (List ℕ) → Written → Type 0
-AreLinesOf view es old new written.All = Appends old new (flat_map (line view) es) × FitLines view es
+AreLinesOf view es old new written.All = Appends old new (flat_map (line view) es) × AreFitLines view es
 AreLinesOf view es old new Breaks = (before after : List (List ℕ × List ℕ)) × (e : List ℕ × List ℕ)
-    × (es ≡ before ++ e ∷ after) × FitLines view before × (breaks_line view e.0 ≡ true)
+    × (es ≡ before ++ e ∷ after) × AreFitLines view before × (breaks_line view e.0 ≡ true)
     × Appends old new (flat_map (line view) before)
 AreLinesOf view es old new (Failed why) = (before after : List (List ℕ × List ℕ))
-    × (es ≡ before ++ after) × FitLines view before × AppendsFront old new (flat_map (line view) before)
+    × (es ≡ before ++ after) × AreFitLines view before × AppendsFront old new (flat_map (line view) before)
 
 -- the lines of all names
 abbrev pub AreWritten : View → Named → Option (List ℕ) → Option (List ℕ) → Written → Type 0

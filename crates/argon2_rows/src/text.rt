@@ -2,10 +2,10 @@
 
 ghost use Rattle.std.specs.Prelude.{◌≡◌, ◌⊎◌, IfErr, IfOk, MatchOption};
 ghost use Rattle.argon2_base.specs.PhcFields.{phc_of};
-ghost use Rattle.argon2_base.specs.PhcText.{PhcText};
+ghost use Rattle.argon2_base.specs.PhcText.{IsPhcText};
 ghost use Rattle.argon2_base.specs.declared.error.password_hash.Error.TheVariants.{EncodingInvalid};
 ghost use Rattle.argon2_programs.specs.Locks.{without_lock};
-ghost use Rattle.argon2_rows.specs.StoredTexts.{IsLine, IsStored};
+ghost use Rattle.argon2_rows.specs.StoredTexts.{IsLine, IsStored, text_in};
 
 use argon2_base::error::password_hash::Result;
 use argon2_base::phc::PasswordHash;
@@ -24,8 +24,8 @@ impl<'a> StoredText<'a> {
     /// # Errors
     /// `EncodingInvalid`: it is outside the grammar of PHC texts, also behind `!`.
     pub fn new(text: &'a str) -> Result<(StoredText<'a>, PasswordHash)>
-        ensures found { IfOk result (λ it. (it.0.text.now ≡ text.now)
-            × PhcText (without_lock text.now) (phc_of it.1)) }
+        ensures found { IfOk result (λ it. (text_in it.0 ≡ text.now)
+            × IsPhcText (without_lock text.now) (phc_of it.1)) }
         ensures invalid { IfErr result (λ e. (e ≡ EncodingInvalid) × ¬ IsStored text.now) }
     {
         let hash = PasswordHash::new(behind_lock(text).unwrap_or(text))?;
@@ -34,7 +34,7 @@ impl<'a> StoredText<'a> {
 
     /// A text of any scheme, if it is one line.
     pub fn of_line(text: &'a str) -> Option<StoredText<'a>>
-        ensures { MatchOption result (¬ IsLine text.now) (λ it. it.text.now ≡ text.now) }
+        ensures { MatchOption result (¬ IsLine text.now) (λ it. text_in it ≡ text.now) }
     {
         if text.as_bytes().contains(&b'\n') {
             return None;
@@ -44,7 +44,7 @@ impl<'a> StoredText<'a> {
 
     /// The text, with its `!` if it is locked.
     pub fn as_str(self) -> &'a str
-        ensures { result.now ≡ self.entry.text.now }
+        ensures { result.now ≡ text_in self.entry }
     {
         self.text
     }

@@ -1,6 +1,6 @@
 -- What an open finds after opens that failed, and what the next one finds then.
 use Rattle.argon2_store.proofs.Imports.{◌≡◌, ℕ, List, [], ◌∷◌, inl, inr, refl, sym, ap, ap₂, subst, subst₂, ◌∙◌, arith, ∥∥₁_elim, ∥∥₁_map, Row, outcomes, seen_image, PageMap, plain, Wanted}
-use Rattle.argon2_store.proofs.Imports.{AreWhole, Image, IsBlankFile, Recovers, RecoversAs, catalog_tree, Trees, state, FileStore, FoundIn, IsUnstarted, MayHave, IsSoundFile}
+use Rattle.argon2_store.proofs.Imports.{AreWhole, Image, IsBlankFile, Recovers, RecoversAs, catalog_tree, Trees, state, FileStore, IsFoundIn, IsUnstarted, MayHave, IsSoundFile}
 use Rattle.argon2_store.proofs.Imports.{StandsFor, account, ◌≤◌, length, slice_index, unwrap_or, cases_eq, part, IsIgnored, Replays}
 use Rattle.argon2_store.proofs.Imports.{part_within, slice_index-part, range_with_len, length-map, reserved, sealed, stored_size, length-sealed, recovers_once}
 use Rattle.argon2_store.proofs.Imports.{Index, recovers, same_listing, Texts, HoldsNames, IsAfterOpens, LeavesNames, HoldsTable, Table, catalog, rows_of-once}
@@ -149,7 +149,7 @@ begun size schema img pages large recs file list (inr bare) =
 
 -- an open finds these rows alone, and the files begin as a database does unless these are none
 abbrev Near : List Row → Image → Type 0
-Near first img = ((rows : List Row) → FoundIn 4096 img rows → rows ≡ first)
+Near first img = ((rows : List Row) → IsFoundIn 4096 img rows → rows ≡ first)
     × (¬ (first ≡ []) → (q : PageMap) → raw.Recovers 4096 img q → AreWhole 4096 q → ¬ ¬ (begin q ≡ 83))
 
 same_rows : (a b : List Row) → IsProp (a ≡ b)
@@ -221,13 +221,13 @@ next_open it listed before may opens left after found holds = ∥∥₁_map (lef
 -- ---- one more open that failed
 
 -- what an open finds is the names of the table, or none if there is no table yet, and it finds no other rows in the same files
-pub near_found : (img : Image) (rows : List Row) → FoundIn 4096 img rows → Near rows img
+pub near_found : (img : Image) (rows : List Row) → IsFoundIn 4096 img rows → Near rows img
 near_found img rows (inl (pages, recs, file, is, one)) = ∥∥₁_elim file (Near-prop rows img) (λ file.
     near_rows img rows (inl (4096, account ∷ [], pages, (omega arith, omega arith, refl, refl), recs, file, refl, is)))
 near_found img rows (inr (none, is)) = ∥∥₁_elim none (Near-prop rows img) (λ unbegun. near_rows img rows (inr (unbegun, is)))
 
 -- files that hold names soundly: an open finds the rows of these
-sound_rows : (img : Image) (names : Texts) → HoldSoundly img names → (rows : List Row) → FoundIn 4096 img rows → rows
+sound_rows : (img : Image) (names : Texts) → HoldSoundly img names → (rows : List Row) → IsFoundIn 4096 img rows → rows
     ≡ rows_of names
 sound_rows img names (texts, lines, inl (pages, recs, file, is)) rows found =
     (near_rows img (rows_of names) (inl
@@ -250,7 +250,7 @@ no_lines name text has = let e = sym (get-from_sorted _ [] name tt) ∙ has in a
 
 -- the names of files that are known to be sound, unless the disk lied
 pub names_held : (clean : Bool) (img : Image) (rows : List Row) → (doubt clean ≡ 0 → AreHeld img)
-    → (doubt clean ≡ 0 → FoundIn 4096 img rows)
+    → (doubt clean ≡ 0 → IsFoundIn 4096 img rows)
     → (names : Texts) × AreTexts names × AreLines names × (doubt clean ≡ 0 → rows ≡ rows_of names)
 names_held true img rows held found =
     let now = no_doubt true refl in
@@ -265,7 +265,7 @@ empty_held = (no_names, (no_texts, no_lines, inr (inl (inl refl), ap (map row_of
 -- a store that was opened on such files has their names
 pub has_held : {D : Type 0} {g : Ghosts D} (it : FileStore D g) (img : Image)
     → (IsClean (view it) → AreHeld img)
-    → (IsClean (view it) → IsUnwritten (view it) × FoundIn 4096 img ((view it).committed 0))
+    → (IsClean (view it) → IsUnwritten (view it) × IsFoundIn 4096 img ((view it).committed 0))
     → (names : Texts) × HasRows over_file it names × AreLines names × (IsClean (view it) → HoldsNames img names)
 has_held it img held opened =
     let (names, texts, lines, rows) =
@@ -273,7 +273,7 @@ has_held it img held opened =
       names,
       (texts, kept_of it names (λ clean. (opened clean).0) rows),
       lines,
-      λ clean. (texts, subst (FoundIn 4096 img) (rows clean) (opened clean).1),
+      λ clean. (texts, subst (IsFoundIn 4096 img) (rows clean) (opened clean).1),
     )
 
 -- ---- one more open that failed

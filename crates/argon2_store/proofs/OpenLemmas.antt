@@ -2,7 +2,7 @@
 use Rattle.argon2_store.proofs.Imports.{◌≡◌, ℕ, Bool, List, [], ◌∷◌, inl, inr, refl, sym, ap, subst, subst₂, ◌∙◌, arith, IsTrue, ◌↔◌, ∥∥₁_elim, ∥∥₁_map, Row, IsSoundFile, OpenError}
 use Rattle.argon2_store.proofs.Imports.{outcomes, seen_image, Image, IsBlankFile, RecoversAs-from, readable, trimmed_whole, clean_if_left, clean_is, size_is_allowed}
 use Rattle.argon2_store.proofs.Imports.{clean_of, no_doubt, catalog_tree, Trees, IsClean, not_broken, settled_at, SeenMayStay, files, reading, schema_in, schema_of}
-use Rattle.argon2_store.proofs.Imports.{state, view, catalog_rows, files_of, image, state_of, wanted_by, FileStore, AreUnharmed, FoundIn, IsTableOf, IsUnstarted}
+use Rattle.argon2_store.proofs.Imports.{state, view, catalog_rows, files_of, image, state_of, wanted_by, FileStore, AreUnharmed, IsFoundIn, IsTableOf, IsUnstarted}
 use Rattle.argon2_store.proofs.Imports.{MayHave, StandsFor, account, IsUnwritten, recovers, AreClean, OnlyReads, IsOfDatabase, HasOtherFormat, HasVersion, IsDamaged, IsOfDamage, IsOfFormat, IsOfPair, ◌≢◌, PageMap, Recovers}
 use Rattle.sqlite_wal.specs.Reads.{OnlyReadsBoth}
 use Rattle.sqlite_disk.specs.declared.Disk.{Ghosts}
@@ -185,7 +185,7 @@ left_table it listed left may = ∥∥₁_elim it.safe squash₁ (λ all.
 pub unharmed_by_reads : {D : Type 0} {g : Ghosts D} (old : D × D) (it end : FileStore D g) (new : D × D) → SeenMayStay g
     → IsQuietCall it end
     → (IsClean (view it) → IsUnwritten (view it) × AreClean g old.0 old.1
-    × FoundIn 4096 (seen_image g old.0 old.1) ((view it).committed 0))
+    × IsFoundIn 4096 (seen_image g old.0 old.1) ((view it).committed 0))
     → new ≡ files end → AreUnharmed g old new
 unharmed_by_reads old it end new stay quiet opened closed clean left may =
     let may_so = may_leave end.pool new (sym closed) clean left may in

@@ -32,15 +32,15 @@ abbrev pub ListsOne : ℕ → PageMap → Type 0
 ListsOne size pages = length (rows_at size (in_use size pages) Table 1) ≡ 1
 
 -- the files recover to a database of that table alone, which has these rows, or there was no table and these are none
-abbrev pub FoundIn : ℕ → Image → List Row → Type 0
-FoundIn size image rows =
+abbrev pub IsFoundIn : ℕ → Image → List Row → Type 0
+IsFoundIn size image rows =
     ((pages : PageMap) × Recovers size image pages × ∥ IsFile size (account ∷ []) pages ∥₁
     × (file_trees size (account ∷ []) pages 0 ≡ rows) × ListsOne size pages)
     ⊎ (∥ IsUnstarted size image ∥₁ × (rows ≡ []))
 
 -- the two files hold exactly these names with their texts
 abbrev pub HoldsNames : Image → Texts → Type 0
-HoldsNames image names = AreTexts names × FoundIn 4096 image (rows_of names)
+HoldsNames image names = AreTexts names × IsFoundIn 4096 image (rows_of names)
 
 -- The files recover to a sound database whose table this is, or to none that lists a table: what an open may suppose that reads
 -- no more than it needs.
@@ -92,7 +92,7 @@ abbrev pub StandsFor : (Image → Type 0) → Image → Image → Type 0
 StandsFor was before left =
     was left
     ⊎ ((RecoversAs 4096 before left × (IsUnreadable 4096 before → was left))
-    ⊎ ((rows : List Row) × ∥ FoundIn 4096 before rows ∥₁ × ∥ MayHave left rows ∥₁))
+    ⊎ ((rows : List Row) × ∥ IsFoundIn 4096 before rows ∥₁ × ∥ MayHave left rows ∥₁))
 
 -- Whatever a crash leaves of the new log and database file stands for the old ones, while the disk has given no wrong answer
 -- that was taken as true.

@@ -6,7 +6,7 @@ ghost use Rattle.sqlite_store.specs.Unopened.{AreUsable, HasFile, Opens, image, 
 ghost use Rattle.sqlite_disk.specs.Disk.{CountsFault};
 ghost use Rattle.sqlite_std_file.specs.File.{IsFresh, file_is_usable};
 ghost use Rattle.argon2_store.specs.Errors.{IsOfDatabase};
-ghost use Rattle.argon2_store.specs.Opening.{AreSound, AreSynced, AreUnharmed, FoundIn, IsDamaged, Recovers, seen_image, IsSigned, AreClean, OnlyReads};
+ghost use Rattle.argon2_store.specs.Opening.{AreSound, AreSynced, AreUnharmed, IsFoundIn, IsDamaged, Recovers, seen_image, IsSigned, AreClean, OnlyReads};
 ghost use Rattle.argon2_rows.specs.Table.{IsClean, IsUnwritten};
 
 use crate::error::OpenError;
@@ -100,7 +100,7 @@ pub(crate) fn open_files<D: Disk + Drop>(
         AreSound (seen_image D.Disk files.log files.db) }
     ensures opened { IfOk result (λ it. IsClean (view it) →
         IsUnwritten (view it) × AreClean D.Disk files.log files.db
-        × FoundIn 4096 (seen_image D.Disk files.log files.db) ((view it).committed 0)) }
+        × IsFoundIn 4096 (seen_image D.Disk files.log files.db) ((view it).committed 0)) }
     ensures error { IfErr result (λ e. IsOfDatabase e.0) }
     ensures left { IfErr result (λ e.
         (AreClean D.Disk e.1.log e.1.db → AreClean D.Disk files.log files.db)

@@ -8,7 +8,7 @@ use Rattle.argon2_base.specs.LongHash.{long_hash}
 use Rattle.argon2_base.specs.declared.error.Error.{Error}
 use Rattle.argon2_base.specs.declared.error.Error.TheVariants.{AlgorithmInvalid, OutputTooShort, VersionInvalid}
 use Rattle.argon2_base.specs.Error.{Fault, bad_encoding, fault_of}
-use Rattle.argon2_base.specs.PhcText.{Phc, PhcText, phc_text}
+use Rattle.argon2_base.specs.PhcText.{Phc, IsPhcText, phc_text}
 use Rattle.argon2.specs.declared.algorithm.Algorithm.{Algorithm}
 use Rattle.argon2.specs.declared.context.Argon2.{Argon2}
 use Rattle.argon2.specs.declared.version.Version.{Version}
@@ -17,7 +17,7 @@ use Rattle.argon2.specs.StoredTexts.{Accepts, verify_outcome}
 use Rattle.argon2.specs.Rfc9106.{tag_of}
 use Rattle.argon2.specs.TextHashing.{hash_outcome}
 use Rattle.argon2.specs.Refusals.{answer_unless, length_refusal}
-use Rattle.argon2.specs.Settings.{Settings, algorithm_named, first_fault, cost_parameters, version_numbered}
+use Rattle.argon2.specs.Settings.{SettingsValue, algorithm_named, first_fault, cost_parameters, version_numbered}
 use Rattle.argon2_programs.specs.Lines.{AppendsFront}
 use Rattle.argon2_tool.specs.Failures.{IsOfInput, IsOfMemory}
 use Rattle.argon2_tool.specs.declared.arguments.Command.{Command}
@@ -74,14 +74,14 @@ pub record IsSpelled (words : List (List ℕ)) (r : Option Command) : Type 0 whe
 -- ---- replies
 
 -- an algorithm, a version and costs as settings with no data, or why they are refused
-abbrev pub settings_under : Option Algorithm → Option Version → Request → Result Settings Error
+abbrev pub settings_under : Option Algorithm → Option Version → Request → Result SettingsValue Error
 settings_under None version r = Err AlgorithmInvalid
 settings_under (Some algorithm) None r = Err VersionInvalid
 settings_under (Some algorithm) (Some version) r = answer_unless (first_fault r.m_cost r.t_cost r.p_cost None)
     (record { algorithm = algorithm; version = version; parameters = cost_parameters r.m_cost r.t_cost r.p_cost None })
 
 -- the settings that are asked for, under any length of output, or why they are refused
-abbrev pub request_settings : Request → Result Settings Error
+abbrev pub request_settings : Request → Result SettingsValue Error
 request_settings r = settings_under (algorithm_named r.algorithm.now) (version_numbered r.version) r
 
 -- the settings are those that are asked for, with no secret, or the refusal is theirs
@@ -94,14 +94,14 @@ abbrev pub long_reply : ℕ → List ℕ → Result (List ℕ) Error
 long_reply len message = if len == 0 then Err OutputTooShort else Ok (encode_lower (long_hash len message))
 
 -- the tag of len bytes under settings and no secret, in hex, or why it or the settings are refused
-abbrev pub tag_reply : Result Settings Error → ℕ → List ℕ → List ℕ → Result (List ℕ) Error
+abbrev pub tag_reply : Result SettingsValue Error → ℕ → List ℕ → List ℕ → Result (List ℕ) Error
 tag_reply (Err refusal) len salt password = Err refusal
 tag_reply (Ok settings) len salt password =
     answer_unless (length_refusal settings.parameters.output_len len (length password) (length salt))
     (encode_lower (tag_of (context_with settings []) password salt len))
 
 -- the text of the value that a password and a salt make under settings and no secret
-abbrev pub IsPhcReply : Result Settings Error → List ℕ → List ℕ → List ℕ → Type 0
+abbrev pub IsPhcReply : Result SettingsValue Error → List ℕ → List ℕ → List ℕ → Type 0
 IsPhcReply (Err refusal) salt password line = ⊥
 IsPhcReply (Ok settings) salt password line = (v : Phc)
     × (hash_outcome (record { settings = settings; secret = [] }) password salt ≡ Ok v) × (line ≡ phc_text v)
@@ -119,15 +119,15 @@ Replies VersionCommand input line = line ≡ VERSION.now
 -- ---- failures
 
 -- the fault of hashing to a text under settings and no secret
-abbrev pub IsPhcFault : Result Settings Error → List ℕ → List ℕ → Fault → Type 0
+abbrev pub IsPhcFault : Result SettingsValue Error → List ℕ → List ℕ → Fault → Type 0
 IsPhcFault (Err refusal) salt password fault = ⊥
 IsPhcFault (Ok settings) salt password fault =
     hash_outcome (record { settings = settings; secret = [] }) password salt ≡ Err fault
 
 -- the fault of a text that does not accept the password: that of its value, or one of the grammar
 abbrev pub IsVerifyFault : List ℕ → List ℕ → Fault → Type 0
-IsVerifyFault password text fault = ((v : Phc) × PhcText text v × (verify_outcome [] password v ≡ Err fault))
-    ⊎ (((v : Phc) → PhcText text v → ⊥) × (fault ≡ bad_encoding))
+IsVerifyFault password text fault = ((v : Phc) × IsPhcText text v × (verify_outcome [] password v ≡ Err fault))
+    ⊎ (((v : Phc) → IsPhcText text v → ⊥) × (fault ≡ bad_encoding))
 
 -- why a command has no reply to an input: the refusal of a call, or a failure before there is one
 abbrev pub Fails : Command → List ℕ → Failure → Type 0

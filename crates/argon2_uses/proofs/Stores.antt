@@ -8,33 +8,33 @@ use Rattle.std.specs.FinMap.{empty, entries, entries_sorted, get, get-empty, is_
 use Rattle.std.specs.FinMap.Entries.{below_all}
 use Rattle.std.specs.List.{AllByRecursion}
 use Rattle.std.specs.Ordering.{is_lt, nat_cmp}
-use Rattle.argon2.specs.Login.{AddStep, store_of}
+use Rattle.argon2.specs.Login.{IsAddStep, store_of}
 use Rattle.argon2.specs.NamedTexts.{Store, KeepsOthers}
-use Rattle.argon2.specs.TextHashing.{Target, IsHashAnswer, hash_outcome, tag_length}
-use Rattle.argon2.specs.PhcText.{Phc, PhcText}
+use Rattle.argon2.specs.TextHashing.{TargetValue, IsHashAnswer, hash_outcome, tag_length}
+use Rattle.argon2.specs.PhcText.{Phc, IsPhcText}
 use Rattle.argon2.specs.base_declared.phc.hash.PasswordHash.{PasswordHash}
 use Rattle.argon2.specs.declared.login.Login.{Login}
 use Rattle.argon2.specs.declared.login.answers.LoginError.{LoginError}
 use Rattle.argon2.specs.declared.login.answers.LoginError.TheVariants.{NameTaken, NameUnknown, OutOfMemory, Refused, Text}
-use Rattle.argon2_uses.specs.Login.{MoveRefusal, RegisterRefusal}
+use Rattle.argon2_uses.specs.Login.{IsMoveRefusal, IsRegisterRefusal}
 
 -- what `add` of a text leaves
-pub add_gives : (answer : Result (Unit {0}) LoginError) (o : Option Phc) (text : List ℕ) (v w : Phc) → PhcText text v →
-    v ≡ w → OnOk answer ((u : Phc) → PhcText text u → o ≡ Some u) → OnOk answer (o ≡ Some w)
+pub add_gives : (answer : Result (Unit {0}) LoginError) (o : Option Phc) (text : List ℕ) (v w : Phc) → IsPhcText text v →
+    v ≡ w → OnOk answer ((u : Phc) → IsPhcText text u → o ≡ Some u) → OnOk answer (o ≡ Some w)
 add_gives (Ok x) o text v w is same says = says v is ∙ ap Some same
 add_gives (Err e) o text v w is same says = tt
 
 -- a text that was made is of lengths that are taken
-pub hashed_ok : (target : Target) (password salt : List ℕ) (h : PasswordHash) →
+pub hashed_ok : (target : TargetValue) (password salt : List ℕ) (h : PasswordHash) →
     IsHashAnswer target password salt (Ok h) → IsOk (hash_outcome target password salt)
 hashed_ok target password salt h (inl is) = rw (← is) refl
 hashed_ok target password salt h (inr is) = let no = is.0 in absurd cc
 
 -- `add` refuses a text of the grammar if the name is taken or memory is out
-pub add_refuses : (target : Target) (login : Login) (name password salt text : List ℕ) (v : Phc)
-    (answer : Result (Unit {0}) LoginError) (after : Store) → PhcText text v →
-    IsOk (hash_outcome target password salt) → AddStep (store_of login) name text answer after →
-    IfErr answer (RegisterRefusal target login name password salt)
+pub add_refuses : (target : TargetValue) (login : Login) (name password salt text : List ℕ) (v : Phc)
+    (answer : Result (Unit {0}) LoginError) (after : Store) → IsPhcText text v →
+    IsOk (hash_outcome target password salt) → IsAddStep (store_of login) name text answer after →
+    IfErr answer (IsRegisterRefusal target login name password salt)
 add_refuses target login name password salt text v (Ok x) after is made step = tt
 add_refuses target login name password salt text v (Err Text) after is made step = absurd (step.0 v is)
 add_refuses target login name password salt text v (Err NameTaken) after is made step = (made, step.0.1)
@@ -93,9 +93,9 @@ pub entries_are_new_in : (es : List (List ℕ × Phc)) (store start : Store) →
 entries_are_new_in es store start is none = rw (is, none) (entries_are_new store)
 
 -- `add` refuses a text of the grammar under a new name only if memory is out
-pub add_refuses_new : (target : Target) (before : Store) (name text : List ℕ) (v : Phc)
-    (answer : Result (Unit {0}) LoginError) (after : Store) → PhcText text v → get before name ≡ None →
-    tag_length target.settings ≤ 64 → AddStep before name text answer after → IfErr answer (MoveRefusal target)
+pub add_refuses_new : (target : TargetValue) (before : Store) (name text : List ℕ) (v : Phc)
+    (answer : Result (Unit {0}) LoginError) (after : Store) → IsPhcText text v → get before name ≡ None →
+    tag_length target.settings ≤ 64 → IsAddStep before name text answer after → IfErr answer (IsMoveRefusal target)
 add_refuses_new target before name text v (Ok x) after is new fits step = tt
 add_refuses_new target before name text v (Err Text) after is new fits step = absurd (step.0 v is)
 add_refuses_new target before name text v (Err NameTaken) after is new fits step =
@@ -106,7 +106,7 @@ add_refuses_new target before name text v (Err OutOfMemory) after is new fits st
 add_refuses_new target before name text v (Err (Refused e)) after is new fits step = absurd step.0
 
 -- a refusal that is passed on
-pub refused_as : (target : Target) (r : Result Login LoginError) (e : LoginError) → IsErr r × IsErrAnd r (λ e'. e' ≡ e) →
-    MoveRefusal target e → IfErr r (MoveRefusal target)
+pub refused_as : (target : TargetValue) (r : Result Login LoginError) (e : LoginError) → IsErr r × IsErrAnd r (λ e'. e' ≡ e) →
+    IsMoveRefusal target e → IfErr r (IsMoveRefusal target)
 refused_as target (Ok x) e is refused = tt
 refused_as target (Err e') e is refused = rw is.1 refused

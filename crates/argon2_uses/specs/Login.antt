@@ -2,9 +2,9 @@
 use Rattle.std.specs.Prelude.{◌≡◌, ◌≢◌, ◌≤◌, ◌⊎◌, ℕ, List, Option, Some, None, Result, Ok, Err, IsErrAnd, IsOk, IsSome, IsSomeAnd}
 use Rattle.std.specs.FinMap.{get}
 use Rattle.argon2.specs.StoredTexts.{AcceptsBy}
-use Rattle.argon2.specs.Login.{AddStep, IsNew, LoginAnswer, Steps, logging_in, login_target, store_of}
+use Rattle.argon2.specs.Login.{IsAddStep, IsNew, IsLoginAnswer, Steps, logging_in, login_target, store_of}
 use Rattle.argon2.specs.NamedTexts.{Store}
-use Rattle.argon2.specs.TextHashing.{Target, IsHashAnswer, hash_outcome, tag_length}
+use Rattle.argon2.specs.TextHashing.{TargetValue, IsHashAnswer, hash_outcome, tag_length}
 use Rattle.argon2.specs.declared.login.Login.{Login}
 use Rattle.argon2.specs.declared.login.answers.Accepted.{Accepted}
 use Rattle.argon2.specs.declared.login.answers.LoginError.{LoginError}
@@ -26,24 +26,24 @@ FindsAndLeaves old name password drawn (Err e) new =
     Steps (logging_in name password drawn (Err e)) old new × (e ≢ NameUnknown) × (e ≢ Refused PasswordInvalid)
 
 -- why a name is not registered with a password and a salt: no text is made, or else `add` refuses it
-abbrev pub RegisterRefusal : Target → Login → List ℕ → List ℕ → List ℕ → LoginError → Type 0
-RegisterRefusal target login name password salt NameTaken =
+abbrev pub IsRegisterRefusal : TargetValue → Login → List ℕ → List ℕ → List ℕ → LoginError → Type 0
+IsRegisterRefusal target login name password salt NameTaken =
     IsOk (hash_outcome target password salt) × IsSome (get (store_of login) name)
-RegisterRefusal target login name password salt OutOfMemory =
+IsRegisterRefusal target login name password salt OutOfMemory =
     IsOk (hash_outcome target password salt) × (get (store_of login) name ≡ None)
-RegisterRefusal target login name password salt (Refused e) = IsHashAnswer target password salt (Err e)
-RegisterRefusal target login name password salt _ = ⊥
+IsRegisterRefusal target login name password salt (Refused e) = IsHashAnswer target password salt (Err e)
+IsRegisterRefusal target login name password salt _ = ⊥
 
 -- what `add` does, and if that succeeds what `login` does then
 abbrev pub TakesOver :
     Login → List ℕ → List ℕ → List ℕ → List ℕ → Result Accepted LoginError → Login → Type 0
 TakesOver old name text password drawn result new =
-    IsErrAnd result (λ e. AddStep (store_of old) name text (Err e) (store_of new))
-    ⊎ ((between : Store) × AddStep (store_of old) name text (Ok tt) between
-    × LoginAnswer (login_target old) between name password drawn (get between name) result (store_of new))
+    IsErrAnd result (λ e. IsAddStep (store_of old) name text (Err e) (store_of new))
+    ⊎ ((between : Store) × IsAddStep (store_of old) name text (Ok tt) between
+    × IsLoginAnswer (login_target old) between name password drawn (get between name) result (store_of new))
 
 -- why a store is not moved to a target: its hashes don't fit into texts, or else memory was refused
-abbrev pub MoveRefusal : Target → LoginError → Type 0
-MoveRefusal target (Refused e) = IsNew target (Err e)
-MoveRefusal target OutOfMemory = tag_length target.settings ≤ 64
-MoveRefusal target _ = ⊥
+abbrev pub IsMoveRefusal : TargetValue → LoginError → Type 0
+IsMoveRefusal target (Refused e) = IsNew target (Err e)
+IsMoveRefusal target OutOfMemory = tag_length target.settings ≤ 64
+IsMoveRefusal target _ = ⊥

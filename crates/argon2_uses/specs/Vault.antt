@@ -3,7 +3,7 @@ use Rattle.std.specs.Prelude.{◌≡◌, ◌⊎◌, ℕ, List, None, Result, Err
 use Rattle.std.specs.Result.{result_err}
 use Rattle.argon2.specs.Argon2.{argon2id_with, own_parameters}
 use Rattle.argon2.specs.Rfc9106.{Context, tag_of}
-use Rattle.argon2.specs.Settings.{Settings, cost_parameters}
+use Rattle.argon2.specs.Settings.{SettingsValue, cost_parameters}
 use Rattle.argon2.specs.Refusals.{length_refusal}
 use Rattle.argon2.specs.base_declared.error.Error.{Error}
 use Rattle.argon2.specs.base_declared.error.Error.TheVariants.{OutOfMemory}
@@ -11,7 +11,7 @@ use Rattle.argon2.specs.declared.context.Argon2.{Argon2}
 use Rattle.argon2_uses.specs.declared.vault.Header.{Header}
 
 -- the second recommended option (RFC 9106, section 4)
-abbrev pub recommended : Settings
+abbrev pub recommended : SettingsValue
 recommended = argon2id_with (cost_parameters 65536 3 4 None)
 
 -- the key of a passphrase and a salt: the first half of a tag of 64 bytes

@@ -2,7 +2,7 @@
 
 ghost use Rattle.std.specs.Prelude.{◌≡◌, ◌≢◌, ◌↔◌, ◌⊎◌, Some, None, IsSome, IsSomeAnd, IfOk, IfErr, OnOk, OnErr, MatchResult};
 ghost use Rattle.std.specs.FinMap.{get};
-ghost use Rattle.rand_core.specs.Stream.{fill_bytes};
+ghost use Rattle.argon2.specs.TextHashing.{drawn_salt};
 ghost use Rattle.argon2.specs.Argon2.{secret_of};
 ghost use Rattle.argon2.specs.Login.{HasPassword, store_of, login_target};
 ghost use Rattle.argon2.specs.NamedTexts.{IsCurrent, KeepsOthers};
@@ -10,7 +10,7 @@ ghost use Rattle.argon2.specs.TextHashing.{hash_value, target_of};
 ghost use Rattle.argon2.specs.base_declared.error.password_hash.Error.TheVariants.{OutOfMemory};
 ghost use Rattle.argon2.specs.declared.login.answers.Accepted.TheVariants.{Kept};
 ghost use Rattle.argon2.specs.declared.login.answers.LoginError.TheVariants.{Refused};
-ghost use Rattle.argon2_uses.specs.Login.{FindsAndLeaves, HasPasswordUnder, MoveRefusal, RegisterRefusal, TakesOver};
+ghost use Rattle.argon2_uses.specs.Login.{FindsAndLeaves, HasPasswordUnder, IsMoveRefusal, IsRegisterRefusal, TakesOver};
 
 use argon2::login::{Accepted, Login, LoginError};
 use argon2::password_hash::Error;
@@ -35,11 +35,11 @@ pub fn register<R: Rng>(
     ensures registered { OnOk result
         (HasPasswordUnder (secret_of argon2.now) store.new name.now password.now) }
     ensures text { OnOk result (get (store_of store.new) name.now ≡ Some (hash_value
-        (target_of argon2.now) password.now (fill_bytes 16 (R.stream rng.old)).0)) }
+        (target_of argon2.now) password.now (drawn_salt (R.stream rng.old)))) }
     ensures others { KeepsOthers name.now (store_of store.old) (store_of store.new) }
     ensures target { login_target store.new ≡ login_target store.old }
-    ensures refused { IfErr result (RegisterRefusal (target_of argon2.now) store.old
-        name.now password.now (fill_bytes 16 (R.stream rng.old)).0) }
+    ensures refused { IfErr result (IsRegisterRefusal (target_of argon2.now) store.old
+        name.now password.now (drawn_salt (R.stream rng.old))) }
     ensures same { OnErr result (store_of store.new ≡ store_of store.old) }
 {
     let hash = match argon2.hash_password(alloc, rng, password) {
@@ -66,7 +66,7 @@ pub fn log_in<R: Rng>(
         (λ e. (e ≡ Refused OutOfMemory) ⊎ (is → ⊥)) }
     ensures still { let target = login_target store.new in IfOk result (λ accepted.
         IsSome accepted → HasPassword target (store_of store.new) name.now password.now) }
-    ensures left { FindsAndLeaves store.old name.now password.now (fill_bytes 16 (R.stream rng.old)).0
+    ensures left { FindsAndLeaves store.old name.now password.now (drawn_salt (R.stream rng.old))
         result store.new }
     ensures others { KeepsOthers name.now (store_of store.old) (store_of store.new) }
     ensures target { login_target store.new ≡ login_target store.old }
@@ -91,7 +91,7 @@ pub fn take_over<R: Rng>(
     password: &[u8],
 ) -> Result<Accepted, LoginError>
     ensures answer { TakesOver store.old name.now text.now password.now
-        (fill_bytes 16 (R.stream rng.old)).0 result store.new }
+        (drawn_salt (R.stream rng.old)) result store.new }
     ensures current { IfOk result (λ did. did ≢ Kept →
         IsSomeAnd (get (store_of store.new) name.now) (IsCurrent (login_target store.new))) }
     ensures others { KeepsOthers name.now (store_of store.old) (store_of store.new) }
@@ -112,7 +112,7 @@ pub fn moved<'key>(
 ) -> Result<Login<'key>, LoginError>
     ensures texts { IfOk result (λ new. store_of new ≡ store_of store.now) }
     ensures target { IfOk result (λ new. login_target new ≡ target_of target.entry) }
-    ensures refused { IfErr result (MoveRefusal (target_of target.entry)) }
+    ensures refused { IfErr result (IsMoveRefusal (target_of target.entry)) }
 {
     let mut new = match Login::new(alloc, target) {
         Ok(new) => new,

@@ -1,7 +1,7 @@
 //! Passwords as stored texts, under the default settings and no secret.
 
 ghost use Rattle.std.specs.Prelude.{◌≡◌, ◌↔◌, ◌⊎◌, [], IsTrue, IfOk, MatchResult};
-ghost use Rattle.rand_core.specs.Stream.{fill_bytes};
+ghost use Rattle.argon2.specs.TextHashing.{drawn_salt};
 ghost use Rattle.argon2.specs.StoredTexts.{Accepts};
 ghost use Rattle.argon2.specs.TextHashing.{IsHashAnswer};
 ghost use Rattle.argon2.specs.PhcFields.{phc_of};
@@ -17,7 +17,7 @@ use std::alloc::Global;
 /// What to store for a new password: it prints as the text.
 pub fn stored<R: Rng>(alloc: Global, rng: &mut R, password: &[u8]) -> Result<PasswordHash>
     ensures accepted { IfOk result (λ hash. Accepts [] password.now (phc_text (phc_of hash))) }
-    ensures made { IsHashAnswer default_target password.now (fill_bytes 16 (R.stream rng.old)).0
+    ensures made { IsHashAnswer default_target password.now (drawn_salt (R.stream rng.old))
         result }
 {
     Argon2::default().hash_password(alloc, rng, password)

@@ -52,8 +52,8 @@ fn fill_slice(argon2: &Argon2<'_>, memory: &mut [Block], pass: u32, slice: u32)
     requires in_passes { pass < (context_of argon2.now).t_cost }
     requires in_slices { slice < 4 }
     requires room { block_count (context_of argon2.now) ≤ length memory.old }
-    ensures blocks { let ctx = context_of argon2.now in blocks_of ctx memory.new
-        ≡ run ctx pass slice (lanes_in_rounds ctx pass slice) (blocks_of ctx memory.old) }
+    ensures blocks { let context = context_of argon2.now in blocks_of context memory.new
+        ≡ run context pass slice (lanes_in_rounds context pass slice) (blocks_of context memory.old) }
     ensures rest { KeepsRest (context_of argon2.now) memory.old memory.new }
 {
     let params = argon2.params();

@@ -58,10 +58,10 @@ pub fn open(
     header: &Header,
 ) -> Result<Option<[u8; 32]>>
     ensures answer { IsDerived argon2.now passphrase.now header.now.salt result }
-    ensures opened { let ctx = context_of argon2.now in IfOk result (λ opened. MatchOption opened
-        (Opens ctx passphrase.now header.now → ⊥)
-        (λ key. Opens ctx passphrase.now header.now
-        × (key ≡ key_of ctx passphrase.now header.now.salt))) }
+    ensures opened { let context = context_of argon2.now in IfOk result (λ opened. MatchOption opened
+        (Opens context passphrase.now header.now → ⊥)
+        (λ key. Opens context passphrase.now header.now
+        × (key ≡ key_of context passphrase.now header.now.salt))) }
 {
     let (key, tag) = derived(argon2, alloc, passphrase, &header.salt)?;
     if tag != header.tag {

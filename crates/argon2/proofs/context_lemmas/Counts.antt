@@ -1,6 +1,6 @@
 -- The mixings of all segments are t * B - 2p, and two for each address block.
 use Rattle.argon2.proofs.Imports.{◌≡◌, ℕ, zero, suc, ◌+◌, ◌-◌, ◌*◌, ◌/◌, ◌^◌, ◌<◌, ◌≤◌, Bool, true, false, ap, arith, ◌==◌, if◌then◌else◌, mul-le-mul, mul-le-mul_left}
-use Rattle.argon2.proofs.Imports.{mul-le-mul_right, nat_tests, Context, address_counter, block_count, is_independent, lane_length, segment_length, Sizes, address_mixings}
+use Rattle.argon2.proofs.Imports.{mul-le-mul_right, nat_tests, Context, address_counter, block_count, is_independent, lane_length, segment_length, HasSizes, address_mixings}
 use Rattle.argon2.proofs.Imports.{independent_segments, mixing_calls, segment_calls, slices_calls}
 
 -- the mixings of the first passes
@@ -8,7 +8,7 @@ unfoldable pub passes_calls : Context → ℕ → ℕ
 passes_calls ctx zero = 0
 passes_calls ctx (suc pass) = passes_calls ctx pass + slices_calls ctx pass 4
 
-module _ (ctx : Context) (sizes : Sizes ctx) where
+module _ (ctx : Context) (sizes : HasSizes ctx) where
   -- the mixings of the address blocks of a segment that has them
   address_calls : ℕ
   address_calls = 2 * address_counter (segment_length ctx - 1)
@@ -81,7 +81,7 @@ grows f more k zero le = let e : k ≡ 0 = omega arith in omega (arith, ap f e)
 grows f more k (suc n) le = grind (arith, more n, grows f more k n)
 
 -- the count of all mixings is small
-mixing_calls-few : (ctx : Context) → Sizes ctx → mixing_calls ctx < 2 ^ 126
+mixing_calls-few : (ctx : Context) → HasSizes ctx → mixing_calls ctx < 2 ^ 126
 unfolding mixing_calls independent_segments
 mixing_calls-few ctx sizes =
     let s = segment_length ctx in
@@ -96,7 +96,7 @@ mixing_calls-few ctx sizes =
     omega (arith, sizes.in_memory, sizes.m_cost)
 
 -- the mixings before a segment are few
-pub calls_before-few : (ctx : Context) → Sizes ctx → (pass slice lane : ℕ) → pass < ctx.t_cost → slice < 4 → lane < ctx.p_cost
+pub calls_before-few : (ctx : Context) → HasSizes ctx → (pass slice lane : ℕ) → pass < ctx.t_cost → slice < 4 → lane < ctx.p_cost
     → passes_calls ctx pass + slices_calls ctx pass slice + lane * segment_calls ctx pass slice < 2 ^ 126
 unfolding passes_calls slices_calls
 calls_before-few ctx sizes pass slice lane t four l =

@@ -1,7 +1,7 @@
 -- Running one schedule for each pass and slice in order fills a list with the matrix.
 use Rattle.argon2.proofs.Imports.{◌≡◌, ℕ, zero, suc, ◌+◌, ◌-◌, ◌*◌, ◌/◌, ◌%◌, ◌<◌, ◌≤◌, ◌≢◌, List, [], ◌∷◌, refl, sym, ap, ◌∙◌, arith, div-eq_of_lt-le, mod-lt}
 use Rattle.argon2.proofs.Imports.{length-set, get_or-set_same, fill_by_all, mul-add-lt, div_below, nat_tests, Context, FirstColumns, Reference, block_count, block_of, lane_length}
-use Rattle.argon2.proofs.Imports.{made_block, segment_length, Memory, Sizes, matrix, reference_places, IsStep, in_memory, step, reference_place, turns, IsSchedule, run}
+use Rattle.argon2.proofs.Imports.{made_block, segment_length, Memory, HasSizes, matrix, reference_places, IsStep, in_memory, step, reference_place, turns, IsSchedule, run}
 use Rattle.argon2.proofs.Imports.{run_slices, run_passes, columns_before, HasBlocksUpTo, Begins, AreSchedules, div-add-mod'}
 use Rattle.argon2.proofs.recurrence.PermittedPlaces.{InSlice}
 use Rattle.argon2.proofs.recurrence.Sources.{AgreeOn, made_cong, reference_of_cong}
@@ -16,7 +16,7 @@ HasBlocksUpTo-like ctx first pass done done' memory same h = grind arith
 
 -- ---- a step of a slice, in which each lane has so many columns
 
-module _ (ctx : Context) (sizes : Sizes ctx) (first : FirstColumns) (pass lane column slice : ℕ) (done : ℕ → ℕ) (memory : Memory)
+module _ (ctx : Context) (sizes : HasSizes ctx) (first : FirstColumns) (pass lane column slice : ℕ) (done : ℕ → ℕ) (memory : Memory)
     (st : IsStep ctx pass lane column) (here : InSlice (segment_length ctx) column slice) (now : done lane ≡ column)
     (about : (l : ℕ) → l < ctx.p_cost → (slice * segment_length ctx ≤ done l) × (done l ≤ (slice + 1) * segment_length ctx))
     (h : HasBlocksUpTo ctx first pass done memory) where
@@ -70,7 +70,7 @@ pub next_pass : (ctx : Context) (first : FirstColumns) (pass : ℕ) (memory : Me
     → HasBlocksUpTo ctx first (suc pass) (λ _. columns_before ctx (suc pass) 0) memory
 next_pass ctx first pass memory h = grind (arith, nat_tests)
 
-module _ (ctx : Context) (sizes : Sizes ctx) (first : FirstColumns) where
+module _ (ctx : Context) (sizes : HasSizes ctx) (first : FirstColumns) where
   -- what is left of a schedule finishes the slice
   run_fills : (pass slice : ℕ) → slice < 4 → (schedule : List ℕ) (memory : Memory) → MayRun ctx pass slice schedule
       → HasBlocksUpTo ctx first pass (done_before ctx slice schedule) memory

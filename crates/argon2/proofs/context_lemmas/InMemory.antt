@@ -1,7 +1,7 @@
 -- Where lanes end in a memory, and what a step reads of it, by places.
 use Rattle.argon2.proofs.Imports.{◌≡◌, ℕ, ◌+◌, ◌*◌, ◌<◌, ◌&&◌, List, [], length, map, refl, sym, ap, ◌∙◌, arith, slice_index, slice_index_or, nat_lt, ◌==◌, if◌then◌else◌, mul-add-lt}
 use Rattle.argon2.proofs.Imports.{nat_tests, get_or-map, xor_blocks-comm, mixed, xor_blocks, Context, block_count, lane_length, made_block, previous, reference, reference_of, reference_word}
-use Rattle.argon2.proofs.Imports.{Memory, place_of, in_memory, previous_place, reference_place, ◌^◌, ◌≤◌, mul-le-mul_left, mul-le-mul_right, Sizes}
+use Rattle.argon2.proofs.Imports.{Memory, place_of, in_memory, previous_place, reference_place, ◌^◌, ◌≤◌, mul-le-mul_left, mul-le-mul_right, HasSizes}
 
 -- the place of a lane and a column is within the memory
 pub place_below : (ctx : Context) (lane column : ℕ) → lane < ctx.p_cost → column < lane_length ctx
@@ -55,7 +55,7 @@ lane_within lane width lanes below =
     let end : (lane + 1) * width ≤ lanes * width = mul-le-mul_right width (omega arith) in omega arith
 
 -- lanes that have no more blocks than they have columns end where a number of 32 bits does
-pub lanes_fit : (ctx : Context) (width : ℕ) → width ≤ lane_length ctx → Sizes ctx → ctx.p_cost * width < 2 ^ 32
+pub lanes_fit : (ctx : Context) (width : ℕ) → width ≤ lane_length ctx → HasSizes ctx → ctx.p_cost * width < 2 ^ 32
 lanes_fit ctx width most sizes = omega (arith, mul-le-mul_left ctx.p_cost most, sizes.in_memory, sizes.m_cost)
 
 -- where a lane ends

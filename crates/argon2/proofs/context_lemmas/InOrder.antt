@@ -1,5 +1,5 @@
 -- How far the memory and the positions are filled while the lanes of a slice come one after the other.
-use Rattle.argon2.proofs.Imports.{◌≡◌, ℕ, suc, ◌+◌, ◌*◌, ◌<◌, ◌≤◌, ◌≢◌, List, add-one, arith, slice_set, nat_tests, Context, FirstColumns, segment_length, Memory, Sizes, Begins}
+use Rattle.argon2.proofs.Imports.{◌≡◌, ℕ, suc, ◌+◌, ◌*◌, ◌<◌, ◌≤◌, ◌≢◌, List, add-one, arith, slice_set, nat_tests, Context, FirstColumns, segment_length, Memory, HasSizes, Begins}
 use Rattle.argon2.proofs.Imports.{columns_before, in_order, position_index, IsFilledFrom, IsFilledUpTo, IsStep, reference_place, step, ◌∙◌, length-set, get_or-set_same, get_or-set_other}
 use Rattle.argon2.proofs.Imports.{mul-add-lt, same_from_place, block_count, lane_length, reference_places, HasPositionsUpTo}
 use Rattle.argon2.proofs.recurrence.PermittedPlaces.{InSlice}
@@ -18,7 +18,7 @@ position_index-same ctx pass lane column r l c a b x y e =
     (outer.0, inner.0, inner.1)
 
 -- a step records its reference's place
-step_positions : (ctx : Context) → Sizes ctx → (first : FirstColumns) (pass lane column : ℕ) (done done' : ℕ → ℕ)
+step_positions : (ctx : Context) → HasSizes ctx → (first : FirstColumns) (pass lane column : ℕ) (done done' : ℕ → ℕ)
     (old new : List ℕ) (place : ℕ) → IsStep ctx pass lane column → pass < ctx.t_cost
     → place ≡ reference_places ctx first pass lane column → done lane ≡ column → done' lane ≡ suc column
     → ((l : ℕ) → l ≢ lane → done' l ≡ done l) → HasPositionsUpTo ctx first pass done old new
@@ -48,7 +48,7 @@ IsFilledUpTo-like ctx first pass done done' memory old new same is =
     grind arith
 
 -- a step fills a column more of its lane
-pub filled_step : (ctx : Context) → Sizes ctx → (first : FirstColumns) (pass slice lane column : ℕ) (memory : Memory)
+pub filled_step : (ctx : Context) → HasSizes ctx → (first : FirstColumns) (pass slice lane column : ℕ) (memory : Memory)
     (old new : List ℕ) → pass < ctx.t_cost → IsStep ctx pass lane column → InSlice (segment_length ctx) column slice
     → IsFilledUpTo ctx first pass (in_order ctx pass slice lane column) memory old new
     → IsFilledUpTo ctx first pass (in_order ctx pass slice lane (column + 1)) (step ctx memory pass lane column) old
@@ -73,7 +73,7 @@ filled_step ctx sizes first pass slice lane column memory old new t st here is =
 -- ---- from the first columns to the matrix
 
 -- the first two columns are where pass 0 begins
-pub filled_first : (ctx : Context) → Sizes ctx → (first : FirstColumns) (memory : Memory) (positions : List ℕ)
+pub filled_first : (ctx : Context) → HasSizes ctx → (first : FirstColumns) (memory : Memory) (positions : List ℕ)
     → Begins ctx first memory → IsFilledUpTo ctx first 0 (λ _. columns_before ctx 0 0) memory positions positions
 filled_first ctx sizes first memory positions begins =
     let two = sizes.two_columns in
@@ -88,7 +88,7 @@ filled_next ctx first pass memory old new is =
     let blocks = next_pass ctx first pass memory is.blocks in rw (add-one pass) (grind (arith, nat_tests))
 
 -- after all passes stand the matrix and all references
-pub filled_last : (ctx : Context) → Sizes ctx → (first : FirstColumns) (passes : ℕ) (memory : Memory) (old new : List ℕ)
+pub filled_last : (ctx : Context) → HasSizes ctx → (first : FirstColumns) (passes : ℕ) (memory : Memory) (old new : List ℕ)
     → passes ≡ ctx.t_cost → IsFilledUpTo ctx first passes (λ _. columns_before ctx passes 0) memory old new
     → IsFilledFrom ctx first memory old new
 filled_last ctx sizes first passes memory old new all is =

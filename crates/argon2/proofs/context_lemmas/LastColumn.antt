@@ -1,10 +1,10 @@
 -- The last column of a memory that is the matrix, and the tag.
 use Rattle.argon2.proofs.Imports.{refl, ◌≡◌, ℕ, ◌+◌, ◌-◌, ◌*◌, ◌<◌, List, [], map, take, fold, sym, ap, ◌∙◌, arith, slice_index_or, range_with_len, take-map, get_or-map-range_with_len}
 use Rattle.argon2.proofs.Imports.{length-map-range_with_len, fill_by_all, div-mul-add, mod-mul-add, mul-add-lt, long_hash, Context, FirstColumns, block_count, block_of, first_block}
-use Rattle.argon2.proofs.Imports.{lane_length, last_block, tag_of, xor_lanes, Memory, Sizes, matrix, matrix_of, bytes_of, xor_blocks, zero_block, blocks_of, last_column}
+use Rattle.argon2.proofs.Imports.{lane_length, last_block, tag_of, xor_lanes, Memory, HasSizes, matrix, matrix_of, bytes_of, xor_blocks, zero_block, blocks_of, last_column}
 
 -- the matrix has the last pass's blocks at their places
-matrix_at : (ctx : Context) → Sizes ctx → (first : FirstColumns) (lane column : ℕ)
+matrix_at : (ctx : Context) → HasSizes ctx → (first : FirstColumns) (lane column : ℕ)
     → lane < ctx.p_cost → column < lane_length ctx
     → slice_index_or (matrix ctx first) (lane * lane_length ctx + column) [] ≡ block_of ctx first (ctx.t_cost - 1) lane column
 unfolding matrix
@@ -33,7 +33,7 @@ last_of_front words ctx memory count width all wide =
     rw (wide, all) (ap (last_column ctx) (sym (take-map words (block_count ctx) memory)))
 
 -- the hash of the matrix's last column is the tag
-pub tag_of_matrix : (ctx : Context) → Sizes ctx → (password salt : List ℕ) (n : ℕ) (memory : Memory) → memory
+pub tag_of_matrix : (ctx : Context) → HasSizes ctx → (password salt : List ℕ) (n : ℕ) (memory : Memory) → memory
     ≡ matrix_of ctx password salt n
     → long_hash n (bytes_of (last_column ctx memory)) ≡ tag_of ctx password salt n
 unfolding matrix_of tag_of last_block

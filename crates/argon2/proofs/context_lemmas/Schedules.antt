@@ -2,7 +2,7 @@
 use Rattle.argon2.proofs.Imports.{◌≡◌, ℕ, zero, suc, ◌+◌, ◌-◌, ◌*◌, ◌/◌, ◌%◌, ◌<◌, ◌≤◌, ◌≢◌, ◌⊎◌, inl, inr, List, [], ◌∷◌, ◌++◌, length, refl, sym, ◌∙◌, subst, arith}
 use Rattle.argon2.proofs.Imports.{slice_index_or, slice_set, ◌==◌, if◌then◌else◌, mul-le-mul_right, div-eq_of_lt-le, mod-lt, AllByRecursion, ext_get_or, get_or-set_other, get_or-set_same}
 use Rattle.argon2.proofs.Imports.{length-set, sum_by-cons, sum_by-append, div_below, same_from_place, cases_eq, nat_tests, Context, block_count, lane_length, segment_length}
-use Rattle.argon2.proofs.Imports.{Memory, Sizes, IsStep, in_memory, step, turns, turn_count, IsSchedule, run, div-add-mod'}
+use Rattle.argon2.proofs.Imports.{Memory, HasSizes, IsStep, in_memory, step, turns, turn_count, IsSchedule, run, div-add-mod'}
 use Rattle.argon2.proofs.context_lemmas.InMemory.{place_below}
 use Rattle.argon2.proofs.recurrence.PermittedPlaces.{InSlice}
 use Rattle.argon2.proofs.recurrence.Sources.{made_cong}
@@ -57,7 +57,7 @@ MayRun-tail ctx pass slice lane schedule m =
     record { lanes = m.lanes.1; few = λ l h. omega (arith, m.few l h, turns-cons l lane schedule) }
 
 -- the first turn is a step
-pub head_step : (ctx : Context) → Sizes ctx → (pass slice lane : ℕ) (schedule : List ℕ) → slice < 4
+pub head_step : (ctx : Context) → HasSizes ctx → (pass slice lane : ℕ) (schedule : List ℕ) → slice < 4
     → MayRun ctx pass slice (lane ∷ schedule)
     → IsStep ctx pass lane (turn_column ctx slice (turns lane schedule))
     × InSlice (segment_length ctx) (turn_column ctx slice (turns lane schedule)) slice
@@ -96,7 +96,7 @@ step_of_other ctx pass slice lane x d memory memory' ne within here h =
     grind (arith, length-set memory (x * lane_length ctx + d), set_apart)
 
 -- and after the same step of the lane in both
-step_of_own : (ctx : Context) → Sizes ctx → (pass slice lane d : ℕ) (memory memory' : Memory) → IsStep ctx pass lane d
+step_of_own : (ctx : Context) → HasSizes ctx → (pass slice lane d : ℕ) (memory memory' : Memory) → IsStep ctx pass lane d
     → InSlice (segment_length ctx) d slice → SeenAlike ctx slice lane memory memory'
     → SeenAlike ctx slice lane (step ctx memory pass lane d) (step ctx memory' pass lane d)
 unfolding step in_memory
@@ -115,7 +115,7 @@ alone ctx pass slice lane zero memory = memory
 alone ctx pass slice lane (suc n) memory = alone ctx pass slice lane n (step ctx memory pass lane (turn_column ctx slice n))
 
 -- a lane sees what its own turns alone make
-run_alone : (ctx : Context) → Sizes ctx → (pass slice lane : ℕ) → slice < 4 → (schedule : List ℕ) → MayRun ctx pass slice schedule
+run_alone : (ctx : Context) → HasSizes ctx → (pass slice lane : ℕ) → slice < 4 → (schedule : List ℕ) → MayRun ctx pass slice schedule
     → (memory memory' : Memory) → SeenAlike ctx slice lane memory memory'
     → SeenAlike ctx slice lane (run ctx pass slice schedule memory) (alone ctx pass slice lane (turns lane schedule) memory')
 unfolding run alone
@@ -133,7 +133,7 @@ run_alone ctx sizes pass slice lane four (x ∷ xs) m memory memory' h =
     ]
 
 -- any two schedules of a slice give the same blocks, whatever they hold
-pub schedules_agree : (ctx : Context) → Sizes ctx → (pass slice : ℕ) → slice < 4 → (xs ys : List ℕ)
+pub schedules_agree : (ctx : Context) → HasSizes ctx → (pass slice : ℕ) → slice < 4 → (xs ys : List ℕ)
     → IsSchedule ctx pass slice xs → IsSchedule ctx pass slice ys
     → (memory : Memory) → length memory ≡ block_count ctx
     → run ctx pass slice xs memory ≡ run ctx pass slice ys memory

@@ -1,6 +1,6 @@
 -- The columns of a segment, by their index in it, and the address blocks that they take.
 use Rattle.argon2.proofs.Imports.{◌≡◌, ℕ, zero, suc, refl, ◌+◌, ◌-◌, ◌*◌, ◌/◌, ◌%◌, ◌<◌, ◌≤◌, ◌≢◌, ◌⊎◌, arith, nat_tests, mod-eq-sub-div-mul, mod-lt, mul-le-mul_right, div-mul-add}
-use Rattle.argon2.proofs.Imports.{mod-mul-add, mul-add-lt, Context, segment_length, Sizes, column_of, IsStepAt, Step, Some, None, ap, if◌then◌else◌, address_block, is_independent}
+use Rattle.argon2.proofs.Imports.{mod-mul-add, mul-add-lt, Context, segment_length, HasSizes, column_of, IsStepAt, Step, Some, None, ap, if◌then◌else◌, address_block, is_independent}
 use Rattle.argon2.proofs.Imports.{addresses_at, address_mixings, div-add-mod'}
 use Rattle.argon2.proofs.recurrence.PermittedPlaces.{InSlice, in_slice, get_or-permitted, length-permitted}
 
@@ -48,7 +48,7 @@ in_lane n slice index h k =
     omega (arith, mul-add-lt slice n index 4 h k)
 
 -- an index of a segment is a step, from column 2 on in pass 0
-pub a_step : (ctx : Context) → Sizes ctx → (at : Step) → at.lane < ctx.p_cost → at.slice < 4 → at.index < segment_length ctx
+pub a_step : (ctx : Context) → HasSizes ctx → (at : Step) → at.lane < ctx.p_cost → at.slice < 4 → at.index < segment_length ctx
     → (at.pass ≡ 0 → 2 ≤ column_of ctx at) → IsStepAt ctx at
 a_step ctx sizes at l h k later = record {
   sizes = sizes;

@@ -2,7 +2,7 @@
 use Rattle.argon2.proofs.Imports.{◌≡◌, ℕ, zero, suc, ◌+◌, ◌-◌, ◌*◌, ◌/◌, ◌%◌, ◌<◌, ◌≤◌, inl, inr, List, [], map, length, refl, sym, ap, ◌∙◌, subst, arith, drop, slice_index_or, take}
 use Rattle.argon2.proofs.Imports.{range_with_len, le-div, mod-lt, div-mul-add, div_below, mod-mul-add, mul-add-lt, cases_lt, get_or-drop, get_or-take, get_or-map-range_with_len}
 use Rattle.argon2.proofs.Imports.{length-map-range_with_len, bytes_of, long_hash, Context, FirstColumns, block_count, block_of, first_block, lane_length, last_block, segment_length, tag_of}
-use Rattle.argon2.proofs.Imports.{Memory, Sizes, AreParts, BeginsSlices, FillsSegment, IsFilledBySegments, last_of_slice, segment_in, slice_length, slices_after, slices_before}
+use Rattle.argon2.proofs.Imports.{Memory, HasSizes, AreParts, BeginsSlices, FillsSegment, IsFilledBySegments, last_of_slice, segment_in, slice_length, slices_after, slices_before}
 use Rattle.argon2.proofs.Imports.{HasBlocksUpTo, columns_before, nat_tests, turn_count, div-add-mod'}
 use Rattle.argon2.proofs.recurrence.PermittedPlaces.{in_slice}
 use Rattle.argon2.proofs.context_lemmas.Filling.{filled_at_first, next_pass}
@@ -63,7 +63,7 @@ parts_of ctx slice lane memory four own =
     }
 
 -- a slice whose segments are filled is filled
-pub slice_fills : (ctx : Context) → Sizes ctx → (first : FirstColumns) (pass slice : ℕ) (memory memory' : Memory) → slice < 4
+pub slice_fills : (ctx : Context) → HasSizes ctx → (first : FirstColumns) (pass slice : ℕ) (memory memory' : Memory) → slice < 4
     → ((lane : ℕ) → lane < ctx.p_cost → FillsSegment ctx pass slice lane (slices_before ctx slice memory)
     (segment_in ctx slice lane memory) (segment_in ctx slice lane memory') (slices_after ctx slice memory))
     → slices_before ctx slice memory' ≡ slices_before ctx slice memory
@@ -123,7 +123,7 @@ slices_begun ctx first old memory is = filled_at_first ctx is.sizes first (in_la
 })
 
 module _ (ctx : Context) (first : FirstColumns) (memory : ℕ → ℕ → Memory) (is : IsFilledBySegments ctx first memory) where
-  sizes : Sizes ctx
+  sizes : HasSizes ctx
   sizes = is.begins.1.sizes
 
   -- the slices of a pass are filled one after the other

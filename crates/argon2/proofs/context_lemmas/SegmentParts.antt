@@ -1,6 +1,6 @@
 -- A step on the parts of a memory is that step on the memory.
 use Rattle.argon2.proofs.Imports.{◌≡◌, ℕ, ◌+◌, ◌*◌, ◌<◌, ◌≢◌, List, length, arith, slice_set, ◌==◌, if◌then◌else◌, mul-add-lt}
-use Rattle.argon2.proofs.Imports.{nat_tests, get_or-set_other, get_or-set_same, Context, FirstColumns, block_count, lane_length, made_block, segment_length, Memory, Sizes, AreParts}
+use Rattle.argon2.proofs.Imports.{nat_tests, get_or-set_other, get_or-set_same, Context, FirstColumns, block_count, lane_length, made_block, segment_length, Memory, HasSizes, AreParts}
 use Rattle.argon2.proofs.Imports.{column_of, IsStepAt, IsStep, in_memory, step, HasBlocksUpTo, columns_before, Step}
 use Rattle.argon2.proofs.recurrence.PermittedPlaces.{InSlice}
 use Rattle.argon2.proofs.recurrence.Sources.{Reads-place, reference_reads}
@@ -55,7 +55,7 @@ abbrev pub ahead : Context → ℕ → ℕ → ℕ → ℕ → ℕ → ℕ
 ahead ctx pass slice lane column other = if other == lane then column else columns_before ctx pass slice
 
 -- a step fills a column more of it
-pub ahead_step : (ctx : Context) → Sizes ctx → (first : FirstColumns) (pass slice lane column : ℕ) (memory : Memory)
+pub ahead_step : (ctx : Context) → HasSizes ctx → (first : FirstColumns) (pass slice lane column : ℕ) (memory : Memory)
     → IsStep ctx pass lane column → InSlice (segment_length ctx) column slice
     → HasBlocksUpTo ctx first pass (ahead ctx pass slice lane column) memory
     → HasBlocksUpTo ctx first pass (ahead ctx pass slice lane (column + 1)) (step ctx memory pass lane column)

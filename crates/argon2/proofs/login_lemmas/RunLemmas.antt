@@ -1,25 +1,25 @@
 -- What each call keeps of a name, and so every list of calls.
 use Rattle.argon2.proofs.Imports.{arith, ◌≡◌, ◌≢◌, ℕ, List, [], ◌∷◌, Option, Some, None, Result, Ok, Err, refl, ap, ◌∙◌, bytes_eq-Decides, IfSome, IsSomeAnd, get, get-empty}
-use Rattle.argon2.proofs.Imports.{slice_cmp, nat_cmp, Phc, IsPhc, phc_text, Accepted, Current, Rehashed, Kept, LoginError, AcceptsBy, Accepts, Event, adding, logging_in, AddStep}
-use Rattle.argon2.proofs.Imports.{LoginAnswer, IsCurrent, Store, newest, Target, IsTarget, hash_value}
-use Rattle.argon2.specs.Runs.{Run, source, accepted, IsFrom}
+use Rattle.argon2.proofs.Imports.{slice_cmp, nat_cmp, Phc, IsPhc, phc_text, Accepted, Current, Rehashed, Kept, LoginError, AcceptsBy, Accepts, Event, adding, logging_in, IsAddStep}
+use Rattle.argon2.proofs.Imports.{IsLoginAnswer, IsCurrent, Store, newest, TargetValue, IsTarget, hash_value}
+use Rattle.argon2.specs.Runs.{IsRun, source, accepted, IsFrom}
 use Rattle.argon2.proofs.login_lemmas.Stores.{get-set}
 use Rattle.argon2.proofs.password_hash_lemmas.MadeValues.{made_accepts, made_is_phc, made_shows}
 
 -- what is known of the text of a name after an accepted login
-abbrev Reached : Target → Option (List ℕ × Accepted) → Option Phc → Type 0
+abbrev Reached : TargetValue → Option (List ℕ × Accepted) → Option Phc → Type 0
 Reached target None o = Unit {0}
 Reached target (Some last) o =
     IsSomeAnd o (λ v. AcceptsBy target.secret last.0 v × (last.1 ≢ Kept → IsCurrent target v))
 
 -- what is known of the text of a name
-abbrev Known : Target → List ℕ → List Event → Option Phc → Type 0
+abbrev Known : TargetValue → List ℕ → List Event → Option Phc → Type 0
 Known target name events o = IsFrom target (newest (source name) events) o × IfSome o IsPhc
     × Reached target (newest (accepted name) events) o
 
-module _ (target : Target) (fits : IsTarget target) where
+module _ (target : TargetValue) (fits : IsTarget target) where
   add_keeps : (before after : Store) (n added : List ℕ) (answer : Result (Unit {0}) LoginError) (older : List Event) →
-      AddStep before n added answer after → ((name : List ℕ) → Known target name older (get before name)) →
+      IsAddStep before n added answer after → ((name : List ℕ) → Known target name older (get before name)) →
       (name : List ℕ) → Known target name (adding n added answer ∷ older) (get after name)
   add_keeps before after n added (Err e) older step known name = rw step.1 (known name)
   add_keeps before after n added (Ok x) older step known name =
@@ -30,7 +30,7 @@ module _ (target : Target) (fits : IsTarget target) where
 
   login_keeps : (before after : Store) (n given drawn : List ℕ) (o : Option Phc)
       (answer : Result Accepted LoginError) (older : List Event) →
-      get before n ≡ o → LoginAnswer target before n given drawn o answer after →
+      get before n ≡ o → IsLoginAnswer target before n given drawn o answer after →
       ((name : List ℕ) → Known target name older (get before name)) →
       (name : List ℕ) → Known target name (logging_in n given drawn answer ∷ older) (get after name)
   login_keeps before after n given drawn None (Err e) older is step known name = rw step.1 (known name)
@@ -49,7 +49,7 @@ module _ (target : Target) (fits : IsTarget target) where
       grind arith
 
   -- what is known of a name's text after any calls
-  pub all_known : (events : List Event) (store : Store) → Run target events store →
+  pub all_known : (events : List Event) (store : Store) → IsRun target events store →
       (name : List ℕ) → Known target name events (get store name)
   all_known [] store run name = rw (run, get-empty (slice_cmp nat_cmp) name) (tt, tt, tt)
   all_known (adding n added answer ∷ older) store run name =
@@ -63,7 +63,7 @@ module _ (target : Target) (fits : IsTarget target) where
   after_last (Some v) given did fits h = ((v, (fits, refl), h.0), h.1)
 
   -- what holds after the last accepted login
-  pub last_holds : (events : List Event) (store : Store) → Run target events store →
+  pub last_holds : (events : List Event) (store : Store) → IsRun target events store →
       (name given : List ℕ) (did : Accepted) → newest (accepted name) events ≡ Some (given, did) →
       IsSomeAnd (get store name) (λ v. Accepts target.secret given (phc_text v))
       × (did ≢ Kept → IsSomeAnd (get store name) (IsCurrent target))

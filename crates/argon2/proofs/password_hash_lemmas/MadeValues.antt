@@ -1,7 +1,7 @@
 -- What is made is in the grammar, is accepted, and shows the settings.
 use Rattle.argon2.proofs.Imports.{◌≡◌, ℕ, ◌^◌, ◌<◌, ◌≤◌, List, length, Option, Some, None, Result, Ok, refl, sym, ap, arith, IsNone, nat_tests, length-take, IsBytes, list_bytes, HasBytes}
 use Rattle.argon2.proofs.Imports.{IsPhc, Pair, Phc, phc_text, Accepts, AcceptsBy, shown_settings, Argon2, context_with, settings_of, Parameters, algorithm_name, first_fault, version_number}
-use Rattle.argon2.proofs.Imports.{tag_of, list_of, params_of, Target, IsTarget, target_of, tag_length, with_tag_length, hash_value, Error, HashError}
+use Rattle.argon2.proofs.Imports.{tag_of, list_of, params_of, TargetValue, IsTarget, target_of, tag_length, with_tag_length, hash_value, Error, HashError}
 use Rattle.argon2.specs.Argon2.{IsSound}
 use Rattle.argon2.proofs.params_lemmas.ListedLemmas.{listed_good}
 use Rattle.argon2.proofs.params_lemmas.Named.{algorithm_named-name, version_numbered-number}
@@ -12,7 +12,7 @@ none_of : {X : Type 0} (o : Option X) → IsNone o → o ≡ None
 none_of o h = grind arith
 
 -- settings are a target if their hashes fit into texts
-pub is_target : (target : Target) → IsSound target → tag_length target.settings ≤ 64 → IsTarget target
+pub is_target : (target : TargetValue) → IsSound target → tag_length target.settings ≤ 64 → IsTarget target
 is_target target is fits = record {
   valid = is.valid;
   m_cost = is.m_cost;
@@ -26,7 +26,7 @@ is_target target is fits = record {
 abbrev fault_with : Parameters → Option ℕ → Option Error
 fault_with v o = first_fault v.m_cost v.t_cost v.p_cost o
 
-module _ (target : Target) (is : IsTarget target) (password salt : List ℕ) where
+module _ (target : TargetValue) (is : IsTarget target) (password salt : List ℕ) where
   -- an output length is at least 4, and so is the one of a hash if none is set
   costs : (target.settings.parameters.p_cost < 2 ^ 32) × (4 ≤ tag_length target.settings)
       × (fault_with target.settings.parameters (Some (tag_length target.settings)) ≡ None)
@@ -81,7 +81,7 @@ module _ (target : Target) (is : IsTarget target) (password salt : List ℕ) whe
   made_accepted v e bytes short = (v, (rw e (made_is_phc bytes), refl), rw e (made_accepts short))
 
 -- a value with the parts of a made value is the made value
-pub is_made : (target : Target) (password salt name : List ℕ) (number : ℕ) (ps : List Pair) (v : Parameters)
+pub is_made : (target : TargetValue) (password salt name : List ℕ) (number : ℕ) (ps : List Pair) (v : Parameters)
     (own given tag : List ℕ)
     → name ≡ algorithm_name target.settings.algorithm → number ≡ version_number target.settings.version
     → ◌≡◌ {A = Result (List Pair) HashError} (Ok ps) (Ok (list_of v)) → v ≡ target.settings.parameters → own ≡ salt → given ≡ own

@@ -1,7 +1,7 @@
 -- If addressing is independent, the place of a reference is a function of the algorithm, the three
 -- costs and the block's place.
 use Rattle.argon2.proofs.Imports.{◌≡◌, ℕ, zero, suc, ◌+◌, ◌*◌, ◌/◌, ◌%◌, ◌<◌, true, refl, sym, ◌∙◌, arith, nat_tests, div_below, Context, FirstColumns, address_block, address_word}
-use Rattle.argon2.proofs.Imports.{finished_segments, is_independent, lane_length, permitted, reference, reference_lane, reference_of, reference_word, segment_length, Sizes, reference_places}
+use Rattle.argon2.proofs.Imports.{finished_segments, is_independent, lane_length, permitted, reference, reference_lane, reference_of, reference_word, segment_length, HasSizes, reference_places}
 use Rattle.argon2.proofs.Imports.{AreAlike}
 
 -- the place of the block that the address word takes
@@ -43,7 +43,7 @@ unfolding is_independent
 argon2i_independent ctx pass slice h = grind (arith, nat_tests)
 
 -- Argon2id's addressing is independent in the first half of pass 0
-pub argon2id_independent : (ctx : Context) → Sizes ctx → (column : ℕ) → ctx.algorithm ≡ 2
+pub argon2id_independent : (ctx : Context) → HasSizes ctx → (column : ℕ) → ctx.algorithm ≡ 2
     → column < 2 * segment_length ctx
     → is_independent ctx 0 (column / segment_length ctx) ≡ true
 unfolding is_independent

@@ -2,7 +2,7 @@
 use Rattle.argon2.proofs.Imports.{◌≡◌, ℕ, zero, suc, ◌+◌, ◌-◌, ◌*◌, ◌/◌, ◌%◌, ◌<◌, ◌≤◌, [], length, refl, ap, ◌∙◌, arith, slice_index_or, nat_lt, ◌==◌, if◌then◌else◌}
 use Rattle.argon2.proofs.Imports.{mul-le-mul_right, div-lt_iff_lt-mul, div-mul-le_self, lt-mul-div-succ, range_with_len, length-map, length-take, get_or_append_left, get_or-append_right}
 use Rattle.argon2.proofs.Imports.{get_or-take, get_or-map-range_with_len, length-range_with_len, nat_tests, Context, columns, finished_segments, lane_length, permitted}
-use Rattle.argon2.proofs.Imports.{segment_length, Sizes, div-add-mod', length-append}
+use Rattle.argon2.proofs.Imports.{segment_length, HasSizes, div-add-mod', length-append}
 
 -- a column c of a slice, for segments of s columns
 pub record InSlice (s c slice : ℕ) : Type 0 where
@@ -42,7 +42,7 @@ finished_column ctx pass slice i =
     let next = (slice + 1) * segment_length ctx + i in
     if pass == 0 then i else if nat_lt next (lane_length ctx) then next else next - lane_length ctx
 
-module _ (ctx : Context) (sizes : Sizes ctx) (column : ℕ) (in_columns : column < lane_length ctx) where
+module _ (ctx : Context) (sizes : HasSizes ctx) (column : ℕ) (in_columns : column < lane_length ctx) where
   -- the column is in its slice
   bounds : InSlice (segment_length ctx) column (column / segment_length ctx)
   bounds = in_slice (segment_length ctx) column sizes.two_columns in_columns

@@ -1,7 +1,7 @@
 -- Which blocks a block is made of. All else rests on two laws, `reference_reads` and `made_cong`.
 use Rattle.argon2.proofs.Imports.{◌≡◌, ℕ, zero, suc, ◌+◌, ◌-◌, ◌*◌, ◌/◌, ◌%◌, ◌^◌, ◌<◌, ◌≤◌, ◌⊎◌, [], length, refl, sym, subst, arith, ◌==◌, mod-lt, range_with_len, All}
 use Rattle.argon2.proofs.Imports.{length-range_with_len, get_or-range_with_len, cond_both, eqb-true, nat_tests, Blocks, Context, columns, finished_segments, lane_length, made_block}
-use Rattle.argon2.proofs.Imports.{permitted, previous, reference, reference_index, reference_lane, reference_of, reference_word, segment_length, MayReferTo, Sizes, IsPlaceFor, IsStep}
+use Rattle.argon2.proofs.Imports.{permitted, previous, reference, reference_index, reference_lane, reference_of, reference_word, segment_length, MayReferTo, HasSizes, IsPlaceFor, IsStep}
 use Rattle.std.proofs.lemmas.List.Elements.{All-map, All-append, All-take, All-get_or, All-nil}
 use Rattle.argon2.proofs.recurrence.PermittedPlaces.{InSlice, in_slice, some_permitted}
 
@@ -25,7 +25,7 @@ All-columns P pass from to h =
 
 -- ---- what may be referred to is a source, and there is some
 
-module _ (ctx : Context) (sizes : Sizes ctx) (lane column other : ℕ) (in_lanes : other < ctx.p_cost)
+module _ (ctx : Context) (sizes : HasSizes ctx) (lane column other : ℕ) (in_lanes : other < ctx.p_cost)
     (in_columns : column < lane_length ctx) where
   -- a pair that the block may be made of
   abbrev IsSource : ℕ → ℕ × ℕ → Type 0
@@ -56,14 +56,14 @@ module _ (ctx : Context) (sizes : Sizes ctx) (lane column other : ℕ) (in_lanes
 -- ---- each block is made of its sources alone
 
 -- the lane referred to is one of the lanes, and in the first slice of all the block's own
-lane_referred : (ctx : Context) → Sizes ctx → (pass lane column w : ℕ) → lane < ctx.p_cost
+lane_referred : (ctx : Context) → HasSizes ctx → (pass lane column w : ℕ) → lane < ctx.p_cost
     → MayReferTo ctx pass lane column (reference_lane ctx pass lane column w)
 unfolding reference_lane
 lane_referred ctx sizes pass lane column w h =
     let small = mod-lt (w / 2 ^ 32) sizes.some_lane in grind (arith, nat_tests)
 
 -- whatever the word, the block that it takes is a source
-pub reference_reads : (ctx : Context) → Sizes ctx → (pass lane column w : ℕ)
+pub reference_reads : (ctx : Context) → HasSizes ctx → (pass lane column w : ℕ)
     → IsStep ctx pass lane column
     → Reads ctx pass lane column (reference ctx pass lane column w).pass (reference ctx pass lane column w).lane
     (reference ctx pass lane column w).column
@@ -78,7 +78,7 @@ reference_reads ctx sizes pass lane column w st =
     (permitted_sources ctx sizes lane column other may.within st.in_columns pass)
 
 -- a source is in a place for the step
-pub Reads-place : (ctx : Context) → Sizes ctx → (pass lane column r l c : ℕ)
+pub Reads-place : (ctx : Context) → HasSizes ctx → (pass lane column r l c : ℕ)
     → Reads ctx pass lane column r l c → IsPlaceFor ctx lane column l c
 Reads-place ctx sizes pass lane column r l c reads =
     let here = in_slice (segment_length ctx) c sizes.two_columns reads.in_columns in grind arith
@@ -88,7 +88,7 @@ abbrev pub AgreeOn : (ctx : Context) (pass lane column : ℕ) → Blocks → Blo
 AgreeOn ctx pass lane column f g = (r l c : ℕ) → Reads ctx pass lane column r l c → f r l c ≡ g r l c
 
 -- such blocks have one previous block
-previous_cong : (ctx : Context) → Sizes ctx → (pass lane column : ℕ)
+previous_cong : (ctx : Context) → HasSizes ctx → (pass lane column : ℕ)
     → IsStep ctx pass lane column → (f g : Blocks) → AgreeOn ctx pass lane column f g
     → previous ctx f pass lane column ≡ previous ctx g pass lane column
 unfolding previous
@@ -96,7 +96,7 @@ previous_cong ctx sizes pass lane zero st f g h =
     let two = sizes.two_columns in h (pass - 1) lane (lane_length ctx - 1) (grind arith)
 previous_cong ctx sizes pass lane (suc column) st f g h = h pass lane column (grind arith)
 
-module _ (ctx : Context) (sizes : Sizes ctx) (pass lane column : ℕ) (st : IsStep ctx pass lane column) (f g : Blocks)
+module _ (ctx : Context) (sizes : HasSizes ctx) (pass lane column : ℕ) (st : IsStep ctx pass lane column) (f g : Blocks)
     (h : AgreeOn ctx pass lane column f g) where
   -- such blocks have one reference
   pub reference_of_cong : reference_of ctx f pass lane column ≡ reference_of ctx g pass lane column

@@ -1,10 +1,11 @@
 //! What a hash depends on beside the password and the salt.
 
-ghost use Rattle.std.specs.Prelude.{◌≡◌, ◌+◌, ◌*◌, ◌^◌, ◌<◌, ◌&&◌, ◌==◌, IsNone, None, length, nat_lt};
+ghost use Rattle.std.specs.Prelude.{◌≡◌, ◌+◌, ◌*◌, ◌^◌, ◌<◌, ◌≤◌, ◌&&◌, ◌==◌, IsNone, None, length, nat_lt};
 ghost use Rattle.argon2.specs.Settings.{algorithm_number, first_fault, version_number};
 ghost use Rattle.argon2.specs.Rfc9106.{Context, IsValid, block_count, lane_length, segment_length, segment_length_for};
 ghost use Rattle.argon2.specs.Argon2.{context_of, context_under};
 ghost use Rattle.argon2.specs.Layout.{IsSize};
+ghost use Rattle.argon2.specs.Refusals.{max_len};
 
 use super::Argon2;
 use crate::params::SLICES;
@@ -45,7 +46,7 @@ impl<'a> Model for Instance<'a> {
 impl<'a> Instance<'a> {
     /// What an `Argon2` hashes under, with this data in place of its parameters'.
     pub(super) fn new(argon2: &'a Argon2<'_>, associated: &'a [u8]) -> Instance<'a>
-        requires { length associated.now < 2 ^ 32 }
+        requires { length associated.now ≤ max_len }
         ensures value { result ≡ context_under argon2.now associated.now }
         ensures valid { IsValid (context_of argon2.now) }
     {
@@ -64,14 +65,14 @@ impl<'a> Instance<'a> {
 
     /// The number of lanes.
     pub(super) fn lanes(&self) -> u32
-        ensures { IsSize (λ ctx. ctx.p_cost) self.now result }
+        ensures { IsSize (λ context. context.p_cost) self.now result }
     {
         self.p_cost
     }
 
     /// The number of passes.
     pub(super) fn passes(&self) -> u32
-        ensures { IsSize (λ ctx. ctx.t_cost) self.now result }
+        ensures { IsSize (λ context. context.t_cost) self.now result }
     {
         self.t_cost
     }

@@ -13,6 +13,7 @@ ghost use Rattle.argon2.specs.Segments.{AreLengths, AreParts, BeginsSlices, Fill
 ghost use Rattle.argon2.specs.SegmentSteps.{IsStepAt, column_of};
 ghost use Rattle.argon2.specs.Steps.{step};
 ghost use Rattle.argon2.specs.Argon2.{context_of, context_under};
+ghost use Rattle.argon2.specs.Refusals.{max_len};
 
 use super::Argon2;
 use super::fill::Step;
@@ -45,11 +46,11 @@ impl Argon2<'_> {
         out_len: u32,
         first: &mut [Words],
     )
-        requires data { length associated.now < 2 ^ 32 }
+        requires data { length associated.now ≤ max_len }
         requires inputs { AreShort pwd.now salt.now }
         requires slice { length first.old ≡ slice_length (context_of self.now) }
-        ensures { let ctx = context_under self.now associated.now in
-            BeginsSlices ctx (first_block ctx pwd.now salt.now out_len) first.old first.new }
+        ensures { let context = context_under self.now associated.now in
+            BeginsSlices context (first_block context pwd.now salt.now out_len) first.old first.new }
     {
         let instance = Instance::new(self, associated);
         instance.begin(pwd, salt, out_len, instance.segment_length(), first);
@@ -66,7 +67,7 @@ impl Argon2<'_> {
         after: &[Words],
         at: Segment,
     )
-        requires data { length associated.now < 2 ^ 32 }
+        requires data { length associated.now ≤ max_len }
         requires parts { AreLengths (context_of self.now) at.slice at.lane (length before.now)
             (length own.old) (length after.now) }
         ensures { FillsSegment (context_under self.now associated.now) at.pass at.slice at.lane

@@ -75,8 +75,8 @@ impl Argon2<'_> {
     pub fn finish_fill(&self, memory: &[Block], out: &mut [u8])
         requires room { block_count (context_of self.now) ≤ length memory.now }
         requires output { IsNone (output_refusal self.now (length out.old)) }
-        ensures { let ctx = context_of self.now in out.new
-            ≡ long_hash (length out.old) (bytes_of (last_column ctx (blocks_of ctx memory.now))) }
+        ensures { let context = context_of self.now in out.new
+            ≡ long_hash (length out.old) (bytes_of (last_column context (blocks_of context memory.now))) }
     {
         let instance = self.instance();
         let blocks = &memory[..instance.block_count()];

@@ -22,15 +22,14 @@ pub struct Target<'key> {
 impl<'key> Target<'key> {
     ghost use Rattle.std.specs.Prelude.{◌≡◌, ◌≢◌, ◌↔◌, ◌⊎◌, ℕ, List, Some, Ok, Err, IsSome, IsTrue, IfOk, MatchResult};
     ghost use Rattle.std.specs.FinMap.{get, insert};
-    ghost use Rattle.rand_core.specs.Stream.{fill_bytes};
     ghost use Rattle.argon2_base.specs.PhcFields.{phc_of};
     ghost use Rattle.argon2_base.specs.PhcText.{Phc};
     ghost use Rattle.argon2_base.specs.declared.error.password_hash.Error.TheVariants.{OutOfMemory};
     ghost use Rattle.argon2.specs.StoredTexts.{AcceptsBy, IsVerifyAnswer, settings_value, stored_of, stored_value};
     ghost use Rattle.argon2.specs.Argon2.{settings_of};
     ghost use Rattle.argon2.specs.NamedTexts.{IsCurrent, Leaves, Store, accepted_by, stream_after, value_after};
-    ghost use Rattle.argon2.specs.Login.{IsNewTarget, LoginAnswer, target_value};
-    ghost use Rattle.argon2.specs.TextHashing.{HashingRefusal, IsFresh, with_tag_length};
+    ghost use Rattle.argon2.specs.Login.{IsNewTarget, IsLoginAnswer, target_value};
+    ghost use Rattle.argon2.specs.TextHashing.{IsHashingRefusal, IsFresh, after_salt, drawn_salt, with_tag_length};
     ghost use Rattle.argon2.specs.declared.login.answers.Accepted.TheVariants.{Kept, Rehashed};
     ghost use Rattle.argon2.specs.declared.login.answers.LoginError.TheVariants.{Refused};
 
@@ -58,8 +57,8 @@ impl<'key> Target<'key> {
         password: &[u8],
     ) -> Outcome<Accepted, LoginError>
         ensures step { (store : Store) (name : List ℕ) → get store name ≡ Some (phc_of text.old) →
-            LoginAnswer (target_value self.now) store name password.now
-            (fill_bytes 16 (R.stream rng.old)).0 (Some (phc_of text.old)) result
+            IsLoginAnswer (target_value self.now) store name password.now
+            (drawn_salt (R.stream rng.old)) (Some (phc_of text.old)) result
             (insert store name (phc_of text.new)) }
         ensures accepted { MatchResult result
             (λ _. AcceptsBy (target_value self.now).secret password.now (phc_of text.new))
@@ -118,7 +117,7 @@ impl<'key> Target<'key> {
     ) -> Result<LoggedIn>
         ensures step { (v : Phc) → stored_of v ≡ Ok (stored_value stored.now) → MatchResult result
             (λ done. AcceptsBy (target_value self.now).secret password.now v
-            × Leaves (target_value self.now) password.now (fill_bytes 16 (R.stream rng.old)).0 v
+            × Leaves (target_value self.now) password.now (drawn_salt (R.stream rng.old)) v
             done.accepted (value_after v done.fresh))
             (λ e. IsVerifyAnswer (target_value self.now).secret password.now v (Err e)) }
         ensures fresh { IfOk result (λ done. IsSome done.fresh ↔ (done.accepted ≡ Rehashed)) }
@@ -158,8 +157,8 @@ impl<'key> Target<'key> {
         password: &[u8],
     ) -> Result<PasswordHash>
         ensures made { MatchResult result (λ text. IsFresh (target_value self.now) password.now
-            (fill_bytes 16 (R.stream rng.old)).0 (phc_of text)) (HashingRefusal password.now) }
-        ensures drawn { R.stream rng.new ≡ (fill_bytes 16 (R.stream rng.old)).1 }
+            (drawn_salt (R.stream rng.old)) (phc_of text)) (IsHashingRefusal password.now) }
+        ensures drawn { R.stream rng.new ≡ after_salt (R.stream rng.old) }
     {
         self.argon2.hash_password(alloc, rng, password)
     }

@@ -1,15 +1,15 @@
 -- Reading a list item by item.
 use Rattle.argon2_base.proofs.Imports.{◌≡◌, ℕ, ◌<◌, ◌≤◌, true, false, ◌&&◌, List, [], ◌∷◌, ◌++◌, length, map, refl, sym, ap, ◌∙◌, arith, nat_le, length-append, nat_tests, and_parts}
-use Rattle.argon2_base.proofs.Imports.{list_all-append, join_with_byte-slice_split, list_all, is_none, Pair, item, params_text, value_of, are_distinct, is_param, are_params, ParamsText}
+use Rattle.argon2_base.proofs.Imports.{list_all-append, join_with_byte-slice_split, list_all, is_none, Pair, item, params_text, value_of, are_distinct, is_param, are_params, IsParamsText}
 use Rattle.argon2_base.proofs.Imports.{pair_of, items_of, pairs_of}
 use Rattle.argon2_base.proofs.phc_lemmas.ParamsTextLemmas.{all_params, pairs_again, param_value}
 
 -- what a list's text says is the list
-pub read_again : (text : List ℕ) (ps : List Pair) → ParamsText text ps → pairs_of text ≡ ps
+pub read_again : (text : List ℕ) (ps : List Pair) → IsParamsText text ps → pairs_of text ≡ ps
 read_again text ps h = ap pairs_of h.1 ∙ pairs_again ps (all_params ps h.0)
 
 -- two lists with one text are one
-pub one_list : (text : List ℕ) (ps qs : List Pair) → ParamsText text ps → ParamsText text qs → ps ≡ qs
+pub one_list : (text : List ℕ) (ps qs : List Pair) → IsParamsText text ps → IsParamsText text qs → ps ≡ qs
 one_list text ps qs h k = sym (read_again text ps h) ∙ read_again text qs k
 
 -- ---- the front of a list
@@ -61,13 +61,13 @@ parts_again [] h = refl
 parts_again (x ∷ xs) h = grind (arith, item_again x, value_length (pair_of x), parts_again xs)
 
 -- the parts of a list's text are parameters with distinct names
-pub good_items : (text : List ℕ) (ps : List Pair) → ParamsText text ps
+pub good_items : (text : List ℕ) (ps : List Pair) → IsParamsText text ps
     → list_all is_param (pairs_of text) && are_distinct (pairs_of text) ≡ true
 good_items text ps h = rw (read_again text ps h) (and_parts _ (nat_le (length (params_text ps)) 127) h.0).0
 
 -- a text whose parts are parameters with distinct names is their list's
 pub read_list : (text : List ℕ) → list_all is_param (pairs_of text) && are_distinct (pairs_of text) ≡ true
-    → length text ≤ 127 → ParamsText text (pairs_of text)
+    → length text ≤ 127 → IsParamsText text (pairs_of text)
 read_list [] good short = (refl, refl)
 read_list (c ∷ s) good short =
     let all = (and_parts (list_all is_param (pairs_of (c ∷ s))) _ good).0 in

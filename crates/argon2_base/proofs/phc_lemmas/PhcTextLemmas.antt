@@ -1,8 +1,8 @@
 -- The fields of a text, and the text of the fields.
 use Rattle.argon2_base.proofs.Imports.{◌≡◌, ◌≢◌, ℕ, ◌<◌, ◌^◌, true, false, List, [], ◌∷◌, ◌++◌, length, refl, sym, ap, ◌∙◌, arith, Option, Some, None, codes, ◌==◌, ◌+◌, drop, and_parts}
 use Rattle.argon2_base.proofs.Imports.{IfSome, IsSome, IsNone, is_some, Bor, join_with_byte-slice_split, length-slice_split, list_all, flat_map, AllByRecursion, join_with_byte, decimal}
-use Rattle.argon2_base.proofs.Imports.{IsBytes, is_value_char, strict_base64, HasBytes, IsPhc, Pair, Phc, PhcText, are_params, field, fields, is_param, item, list_field, params_text}
-use Rattle.argon2_base.proofs.Imports.{phc_text, version_text, fields_of, fields_left, NoVersionFirst, NoItemFirst}
+use Rattle.argon2_base.proofs.Imports.{IsBytes, is_value_char, strict_base64, HasBytes, IsPhc, Pair, Phc, IsPhcText, are_params, field, fields, is_param, item, list_field, params_text}
+use Rattle.argon2_base.proofs.Imports.{phc_text, version_text, fields_of, fields_left, HasNoVersionFirst, HasNoItemFirst}
 use Rattle.std.proofs.Common.{append_assoc}
 use Rattle.std.proofs.lemmas.List.{append-nil}
 use Rattle.std.specs.Str.Pattern.{FindsCharPrefix}
@@ -59,7 +59,7 @@ from_salt v = field strict_base64 v.salt ++ field strict_base64 v.hash
 
 -- what a text that is in the grammar begins with
 pub first_and_left : (text : List ℕ) (t : Bor (List ℕ)) {first : List ℕ} {left : List (List ℕ)} (v : Phc)
-    → PhcText text v → (n : ℕ) × FindsCharPrefix 36 text (Some n) × (t.now ≡ drop n text)
+    → IsPhcText text v → (n : ℕ) × FindsCharPrefix 36 text (Some n) × (t.now ≡ drop n text)
     × (length t.now + n ≡ length text) → fields_of t.now ≡ first ∷ left
     → (first ≡ v.algorithm) × (left ≡ field version_text v.version ++ from_params v)
 first_and_left text t v h cases f =
@@ -88,23 +88,23 @@ base64_no_item b p bytes e = grind (arith, base64_lacks 61 refl b, Lacks_not 61 
 
 -- a salt, or a hash in its place, is no item
 bytes_no_item : (o r : Option (List ℕ)) → IfSome o (HasBytes 8 48) → IfSome r (HasBytes 4 64)
-    → NoItemFirst (field strict_base64 o ++ field strict_base64 r)
+    → HasNoItemFirst (field strict_base64 o ++ field strict_base64 r)
 bytes_no_item o r h k p more e = grind (arith, base64_no_item)
 
 -- behind the parameters there is no item
-pub no_item : (v : Phc) → IsPhc v → NoItemFirst (from_salt v)
+pub no_item : (v : Phc) → IsPhc v → HasNoItemFirst (from_salt v)
 no_item v h = bytes_no_item v.salt v.hash h.salt h.hash
 
 -- a list is no version
-list_no_version : (ps : List Pair) (rest : List (List ℕ)) → are_params ps ≡ true → NoItemFirst rest
-    → NoVersionFirst (list_field ps ++ rest)
+list_no_version : (ps : List Pair) (rest : List (List ℕ)) → are_params ps ≡ true → HasNoItemFirst rest
+    → HasNoVersionFirst (list_field ps ++ rest)
 list_no_version [] rest h k d more e = k (codes "v", d) more e
 list_no_version (p ∷ ps) rest h k d more e =
     let t = text_item p ps in
     grind (arith, pair_again p.0 t.0, name_lacks 61 refl p.0, param_name p, all_params (p ∷ ps))
 
 -- behind the version there is no version
-pub no_version : (v : Phc) → IsPhc v → NoVersionFirst (from_params v)
+pub no_version : (v : Phc) → IsPhc v → HasNoVersionFirst (from_params v)
 no_version v h = list_no_version v.params (from_salt v) h.params (no_item v h)
 
 -- without a salt there is no hash
@@ -120,7 +120,7 @@ no_list_read f more rest [] h e = (refl, e)
 no_list_read f more rest (p ∷ ps) h e = grind (arith, text_item p ps, h (p.0, (text_item p ps).0))
 
 -- an item begins a list
-pub list_read : (f : List ℕ) (more rest : List (List ℕ)) (ps : List Pair) (p : Pair) → f ≡ item p → NoItemFirst rest
+pub list_read : (f : List ℕ) (more rest : List (List ℕ)) (ps : List Pair) (p : Pair) → f ≡ item p → HasNoItemFirst rest
     → f ∷ more ≡ list_field ps ++ rest → (f ≡ params_text ps) × (more ≡ rest)
 list_read f more rest [] p is k e = absurd (k p more (sym e ∙ ap (λ (x : List ℕ). x ∷ more) is))
 list_read f more rest (q ∷ ps) p is k e = grind arith

@@ -4,7 +4,7 @@
 ghost use Rattle.std.specs.Prelude.{◌≡◌, ◌<◌, ◌^◌, ◌++◌, ◌∷◌, ℕ, List, Option, IfOk, IfErr, IfSome, IsSome, IsOkAnd, IsTrue};
 ghost use Rattle.argon2_base.specs.Texts.{strict_base64};
 ghost use Rattle.argon2_base.specs.PhcText.{HasBytes, Pair, are_params, field, list_field, version_text};
-ghost use Rattle.argon2_base.specs.PhcFields.{fields_of, fields_left, IsBytesField, NoVersionFirst, NoItemFirst};
+ghost use Rattle.argon2_base.specs.PhcFields.{fields_of, fields_left, IsBytesField, HasNoVersionFirst, HasNoItemFirst};
 ghost use Rattle.argon2_base.specs.declared.error.password_hash.Error.TheVariants.{EncodingInvalid};
 
 use super::bytes::{Output, Salt, TextBytes};
@@ -29,7 +29,7 @@ pub(super) fn version_field(left: Option<&str>) -> Result<(Option<u32>, Option<&
         (fields_left left.entry ≡ field version_text x.0 ++ fields_left x.1)
         × IfSome x.0 (λ n. n < 2 ^ 32)) }
     ensures only { (o : Option ℕ) (rest : List (List ℕ))
-        → IfSome o (λ n. n < 2 ^ 32) → NoVersionFirst rest
+        → IfSome o (λ n. n < 2 ^ 32) → HasNoVersionFirst rest
         → fields_left left.entry ≡ field version_text o ++ rest
         → IsOkAnd result (λ x. (x.0 ≡ o) × (fields_left x.1 ≡ rest)) }
     ensures invalid { IfErr result (λ e. e ≡ EncodingInvalid) }
@@ -53,7 +53,7 @@ pub(super) fn params_field(left: Option<&str>) -> Result<(ParamsString, Option<&
         (fields_left left.entry ≡ list_field x.0 ++ fields_left x.1)
         × IsTrue (are_params x.0)) }
     ensures only { (ps : List Pair) (rest : List (List ℕ))
-        → IsTrue (are_params ps) → NoItemFirst rest
+        → IsTrue (are_params ps) → HasNoItemFirst rest
         → fields_left left.entry ≡ list_field ps ++ rest
         → IsOkAnd result (λ x. (x.0 ≡ ps) × (fields_left x.1 ≡ rest)) }
     ensures invalid { IfErr result (λ e. e ≡ EncodingInvalid) }

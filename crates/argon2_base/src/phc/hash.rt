@@ -4,7 +4,7 @@ ghost use Rattle.std.specs.Prelude.{◌≡◌, ◌↔◌, ◌<◌, ◌≤◌, �
 ghost use Rattle.std.specs.Cmp.{on_equiv, on_per, partial_equiv_from_equiv};
 ghost use Rattle.std.proofs.Props.{props};
 ghost use Rattle.arrayvec.specs.ArrayString.{array_string_len};
-ghost use Rattle.argon2_base.specs.PhcText.{IsPhc, Phc, PhcText, phc_with, field, fields_text, list_field, phc_eq, phc_eq_equiv, version_text};
+ghost use Rattle.argon2_base.specs.PhcText.{IsPhc, Phc, IsPhcText, phc_with, field, fields_text, list_field, phc_eq, phc_eq_equiv, version_text};
 ghost use Rattle.argon2_base.specs.declared.error.password_hash.Error.TheVariants.{EncodingInvalid};
 
 use super::bytes::{Output, Salt};
@@ -43,8 +43,8 @@ impl PasswordHash {
 
     /// What a PHC text says, or `EncodingInvalid` if it is outside the grammar.
     pub fn new(text: &str) -> Result<PasswordHash>
-        ensures found { IfOk result (λ h. PhcText text.now (phc_of h)) }
-        ensures only { (v : Phc) → PhcText text.now v → IsOkAnd result (λ h. phc_of h ≡ v) }
+        ensures found { IfOk result (λ h. IsPhcText text.now (phc_of h)) }
+        ensures only { (v : Phc) → IsPhcText text.now v → IsOkAnd result (λ h. phc_of h ≡ v) }
         ensures invalid { IfErr result (λ e. e ≡ EncodingInvalid) }
     {
         let Some(text) = text.strip_prefix('$') else {
@@ -66,7 +66,7 @@ impl PasswordHash {
 
     /// The text that says it, which [`PasswordHash::new`] reads as the same.
     pub fn text(&self) -> Text
-        ensures { PhcText result.bytes (phc_of self.now) }
+        ensures { IsPhcText result.bytes (phc_of self.now) }
     {
         let mut text = ArrayString::new();
         push_field(&mut text, self.algorithm.as_str());
@@ -104,8 +104,8 @@ impl FromStr for PasswordHash {
     type Err = Error;
 
     ghost from_str_gives = { λ text r.
-        MatchResult r (λ h. PhcText text (phc_of h)) (λ e. e ≡ EncodingInvalid)
-        × ((v : Phc) → PhcText text v → IsOkAnd r (λ h. phc_of h ≡ v)) };
+        MatchResult r (λ h. IsPhcText text (phc_of h)) (λ e. e ≡ EncodingInvalid)
+        × ((v : Phc) → IsPhcText text v → IsOkAnd r (λ h. phc_of h ≡ v)) };
 
     fn from_str(text: &str) -> Result<PasswordHash> {
         PasswordHash::new(text)

@@ -7,7 +7,7 @@ ghost use Rattle.std.specs.List.{list_all};
 ghost use Rattle.std.specs.Cmp.{partial_equiv_from_equiv};
 ghost use Rattle.std.specs.Iterator.{YieldsFirstBy, item_count};
 ghost use Rattle.argon2_base.specs.Texts.{strict_base64};
-ghost use Rattle.argon2_base.specs.PhcText.{Pair, ident_text, item, params_text, value_of, is_param, are_params, ParamsText, IsCut, pair_of, pairs_of, items_of, items_left, pairs_left, are_distinct, with_item, pairs_eq, pairs_eq_equiv};
+ghost use Rattle.argon2_base.specs.PhcText.{Pair, ident_text, item, params_text, value_of, is_param, are_params, IsParamsText, IsCut, pair_of, pairs_of, items_of, items_left, pairs_left, are_distinct, with_item, pairs_eq, pairs_eq_equiv};
 ghost use Rattle.argon2_base.specs.declared.error.password_hash.Error.TheVariants.{ParamsInvalid};
 
 use super::bytes::base64_text;
@@ -125,8 +125,8 @@ impl ParamsString {
 
     // The list whose text this is.
     pub(super) fn read(text: &str) -> Result<ParamsString>
-        ensures found { IfOk result (λ ps. ParamsText text.now ps) }
-        ensures only { (ps : List Pair) → ParamsText text.now ps → result ≡ Ok ps }
+        ensures found { IfOk result (λ ps. IsParamsText text.now ps) }
+        ensures only { (ps : List Pair) → IsParamsText text.now ps → result ≡ Ok ps }
         ensures invalid { IfErr result (λ e. e ≡ ParamsInvalid) }
     {
         let Ok(copy) = ArrayString::from(text) else {
@@ -156,8 +156,8 @@ impl FromStr for ParamsString {
     type Err = Error;
 
     ghost from_str_gives = { λ text r.
-        MatchResult r (λ ps. ParamsText text ps) (λ e. e ≡ ParamsInvalid)
-        × ((ps : List Pair) → ParamsText text ps → r ≡ Ok ps) };
+        MatchResult r (λ ps. IsParamsText text ps) (λ e. e ≡ ParamsInvalid)
+        × ((ps : List Pair) → IsParamsText text ps → r ≡ Ok ps) };
 
     fn from_str(text: &str) -> Result<ParamsString> {
         ParamsString::read(text)

@@ -2,14 +2,14 @@
 
 ghost use Rattle.std.specs.Prelude.{◌≡◌, IfSome, IsSomeAnd};
 ghost use Rattle.argon2_base.specs.PhcFields.{phc_of};
-ghost use Rattle.argon2_base.specs.PhcText.{Phc, PhcText};
+ghost use Rattle.argon2_base.specs.PhcText.{Phc, IsPhcText};
 
 use argon2::PasswordHash;
 
 /// What a text says, if it is in the grammar.
 pub fn read(text: &[u8]) -> Option<PasswordHash>
-    ensures found { IfSome result (λ hash. PhcText text.now (phc_of hash)) }
-    ensures only { (v : Phc) → PhcText text.now v → IsSomeAnd result (λ hash. phc_of hash ≡ v) }
+    ensures found { IfSome result (λ hash. IsPhcText text.now (phc_of hash)) }
+    ensures only { (v : Phc) → IsPhcText text.now v → IsSomeAnd result (λ hash. phc_of hash ≡ v) }
 {
     let Ok(text) = std::str::from_utf8(text) else {
         return None;

@@ -3,8 +3,8 @@
 ghost use Rattle.std.specs.Prelude.{◌≡◌, ◌≤◌, ◌-◌, ◌++◌, [], Ok, Err, length, replicate, unwrap_or};
 ghost use Rattle.argon2_base.specs.Error.{Fault};
 ghost use Rattle.argon2_base.specs.PhcFields.{phc_of};
-ghost use Rattle.argon2_base.specs.PhcText.{Phc, PhcText, field, fields_text, version_text};
-ghost use Rattle.argon2.specs.Settings.{AreValid, Settings as Shown};
+ghost use Rattle.argon2_base.specs.PhcText.{Phc, IsPhcText, field, fields_text, version_text};
+ghost use Rattle.argon2.specs.Settings.{AreValid, SettingsValue};
 ghost use Rattle.argon2.specs.StoredTexts.{settings_value, shown_settings};
 ghost use Rattle.argon2_c.specs.PhcReading.{ShowsFields, ShowsNoSettings, ShowsSettings, is_below, is_wanted, renewal_code, show_code};
 
@@ -69,13 +69,13 @@ pub struct PhcShown {
 ///   a text of the grammar shows, and its members for settings are 0.
 #[unsafe(no_mangle)]
 pub extern "C" fn argon2_c_phc_show(text: &[u8], shown: &mut PhcShown) -> i32
-    ensures said { (v : Phc) → PhcText text.now v
+    ensures said { (v : Phc) → IsPhcText text.now v
         → (result ≡ show_code v) × ShowsFields v shown.new }
-    ensures settings { (v : Phc) (s : Shown) → PhcText text.now v → shown_settings v ≡ Ok s
+    ensures settings { (v : Phc) (s : SettingsValue) → IsPhcText text.now v → shown_settings v ≡ Ok s
         → ShowsSettings s shown.new }
-    ensures no_settings { (v : Phc) (fault : Fault) → PhcText text.now v
+    ensures no_settings { (v : Phc) (fault : Fault) → IsPhcText text.now v
         → shown_settings v ≡ Err fault → ShowsNoSettings shown.new }
-    ensures unsaid { ((v : Phc) → PhcText text.now v → ⊥)
+    ensures unsaid { ((v : Phc) → IsPhcText text.now v → ⊥)
         → (result ≡ TEXT_INVALID) × (shown.new ≡ shown.old) }
 {
     match read(text) {
@@ -88,7 +88,7 @@ pub extern "C" fn argon2_c_phc_show(text: &[u8], shown: &mut PhcShown) -> i32
 fn show(hash: &PasswordHash, shown: &mut PhcShown) -> i32
     ensures code { result ≡ show_code (phc_of hash.now) }
     ensures fields { ShowsFields (phc_of hash.now) shown.new }
-    ensures settings { (s : Shown) → shown_settings (phc_of hash.now) ≡ Ok s
+    ensures settings { (s : SettingsValue) → shown_settings (phc_of hash.now) ≡ Ok s
         → ShowsSettings s shown.new }
     ensures no_settings { (fault : Fault) → shown_settings (phc_of hash.now) ≡ Err fault
         → ShowsNoSettings shown.new }
@@ -230,9 +230,9 @@ pub extern "C" fn argon2_c_phc_renewal(
     associated: &[u8],
     text: &[u8],
 ) -> i32
-    ensures said { (v : Phc) → PhcText text.now v
+    ensures said { (v : Phc) → IsPhcText text.now v
         → result ≡ renewal_code wanted.now output keyid.now associated.now v }
-    ensures unsaid { ((v : Phc) → PhcText text.now v → ⊥) → result ≡ TEXT_INVALID }
+    ensures unsaid { ((v : Phc) → IsPhcText text.now v → ⊥) → result ≡ TEXT_INVALID }
 {
     match read(text) {
         Some(hash) => renewal(wanted, output, keyid, associated, &hash),

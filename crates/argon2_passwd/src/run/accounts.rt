@@ -1,7 +1,7 @@
 //! Accounts in a file.
 
 ghost use Rattle.std.specs.Prelude.{◌≡◌, ◌∷◌, ◌⊎◌, [], ℕ, List, Option, Some, Ok, IfErr, IfOk, MatchResult, OnErr, OnOk, map, string_bytes};
-ghost use Rattle.argon2_passwd.specs.Answers.{AddsLines, Ends, FailsToRead, IsLogin, IsLooked, IsOpened, IsSalt, IsServed, entry_of, fill_bytes, option_map, policy_value, status_of};
+ghost use Rattle.argon2_passwd.specs.Answers.{AddsLines, Ends, FailsToRead, IsLogin, IsLooked, IsOpened, IsSalt, IsServed, entry_of, drawn_salt, option_map, policy_value, status_of};
 
 use super::edits::{edit, edit_file};
 use super::others::import_others;
@@ -180,7 +180,7 @@ fn log_in<P: Outside, G: Rng>(
     password: &[u8],
 ) -> Result<Accepted, Failure>
     requires shut { P.closed outside.old [] }
-    requires salt { IsSalt P.gives (fill_bytes 16 (G.stream rng.old)).0 }
+    requires salt { IsSalt P.gives (drawn_salt (G.stream rng.old)) }
     ensures { Ends (λ done. IsLogin P.File.Store P.keeps P.gives (policy_value access.now.policy.now)
         access.now.path.now name.now password.now done (P.closed outside.new))
         (P.closed outside.new []) result }

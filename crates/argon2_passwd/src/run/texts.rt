@@ -1,7 +1,7 @@
 //! Makes texts of passwords, and says what checking one did. No file is opened.
 
 ghost use Rattle.std.specs.Prelude.{◌≡◌, ◌↔◌, IfErr, IfOk, IsSome, string_bytes};
-ghost use Rattle.argon2_passwd.specs.Answers.{IsFresh, Phc, fill_bytes, login_text, phc_of, policy_value, status_of, value_after};
+ghost use Rattle.argon2_passwd.specs.Answers.{IsFresh, Phc, drawn_salt, login_text, phc_of, policy_value, status_of, value_after};
 ghost use Rattle.argon2.specs.declared.login.answers.Accepted.TheVariants.{Rehashed};
 
 use crate::failure::Failure;
@@ -18,7 +18,7 @@ pub fn fresh<G: Rng>(
     password: &[u8],
 ) -> Result<PasswordHash, Failure>
     ensures ok { IfOk result (λ text. IsFresh (policy_value policy.now).target password.now
-        (fill_bytes 16 (G.stream rng.old)).0 (phc_of text)) }
+        (drawn_salt (G.stream rng.old)) (phc_of text)) }
     ensures err { IfErr result (λ failure. status_of failure ≡ 3) }
 {
     // A password that was read is short enough, so that only memory is refused.

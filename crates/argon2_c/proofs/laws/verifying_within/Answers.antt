@@ -2,10 +2,10 @@ use Rattle.std.proofs.Common.{◌≡◌, ◌⊎◌, inl, inr, ℕ, ◌-◌, Bool
 use Rattle.std.specs.Prelude.{replicate, take}
 use Rattle.std.proofs.lemmas.List.{take_at}
 use Rattle.std.proofs.lemmas.Slice.Eq.{bytes_eq-Decides}
-use Rattle.argon2_base.specs.PhcText.{Phc, PhcText}
+use Rattle.argon2_base.specs.PhcText.{Phc, IsPhcText}
 use Rattle.argon2.specs.Argon2.{context_with}
 use Rattle.argon2.specs.Rfc9106.{tag_of}
-use Rattle.argon2.specs.StoredTexts.{Stored, stored_of}
+use Rattle.argon2.specs.StoredTexts.{StoredValue, stored_of}
 use Rattle.argon2_c.specs.declared.code.TheConstants.{OK, VERIFY_MISMATCH}
 use Rattle.argon2_c.specs.PhcReading.{Shows, admitted_of}
 use Rattle.argon2_c.specs.Verification.{BoundVerification}
@@ -25,12 +25,12 @@ one_length key secret old_secret (inl is) = inl (ap length is)
 one_length key secret old_secret (inr is) = inr (ap length is)
 
 -- what the calls make of a text that is admitted
-record IsMade (c : BoundVerification) (stored : Stored) : Type 0 where
+record IsMade (c : BoundVerification) (stored : StoredValue) : Type 0 where
   hash : take c.shown.output_len c.shown.output ≡ stored.hash
   hashed : c.hashed ≡ OK
   tag : c.tag ≡ tag_of (context_with stored.settings c.key) c.password stored.salt (length stored.hash)
 
-made : (c : BoundVerification) (v : Phc) (stored : Stored) → c.admitted ≡ OK → PhcText c.text v
+made : (c : BoundVerification) (v : Phc) (stored : StoredValue) → c.admitted ≡ OK → IsPhcText c.text v
     → admitted_of c.bound v ≡ Ok stored → stored_of v ≡ Ok stored → IsMade c stored
 made c v stored ok says is reads =
     let shows = c.admits.shows v stored ok says is in

@@ -1,5 +1,5 @@
 use Rattle.argon2_store.proofs.Imports.{arith, rules, [], ◌∷◌, ap, inl, inr, ◌≡◌, sym, length, subst, subst₂, ◌∙◌, IsTrue, ∥∥₁_map, Recovers, recovers_once, clean_of}
-use Rattle.argon2_store.proofs.Imports.{schema_of, state, view, kept_schema, state_of, image, account, Image, IsUnstarted, FoundIn, nil_from_length, refl, wanted_by, ListsOne}
+use Rattle.argon2_store.proofs.Imports.{schema_of, state, view, kept_schema, state_of, image, account, Image, IsUnstarted, IsFoundIn, nil_from_length, refl, wanted_by, ListsOne}
 use Rattle.sqlite_store.specs.Unopened as below
 use Rattle.argon2_store.proofs.OpenLemmas.{after, as_before, bare, fresh, has_file, image_is, made, probed, there, unharmed, was_clean}
 use Rattle.argon2_store.proofs.opening.open_files.Goals as goal
@@ -89,7 +89,7 @@ returns-in-Ok-open_there-clause-opened g c clean =
     let once = recovers_once _ _ _ _ listed.again (rw size at (c.in-Ok-open_there.ensures.found now)) in (
       search (arith, fresh),
       search (arith, was_clean),
-      subst₂ (λ n i. FoundIn n i ((view store).committed 0)) (search rules) (search (arith, image_is)) (inl (
+      subst₂ (λ n i. IsFoundIn n i ((view store).committed 0)) (search rules) (search (arith, image_is)) (inl (
         (state store).committed,
         subst (Recovers _ _) once listed.found,
         ∥∥₁_map (store.stored (c.in-Ok-open_there.ensures.ready.is_open clean))
@@ -106,7 +106,7 @@ returns-in-Ok-create-clause-opened g c clean =
     let (was, size, none, before) = bare (c.in-Ok-create.ensures.honest now) in (
       search (arith, fresh),
       search (arith, was_clean),
-      subst₂ (λ n i. FoundIn n i ((view c.in-Ok-create.store).committed 0)) (search rules) (search (arith, image_is))
+      subst₂ (λ n i. IsFoundIn n i ((view c.in-Ok-create.store).committed 0)) (search rules) (search (arith, image_is))
           (inr (none, c.in-Ok-create.ensures.empty now 0 (omega arith))),
     )
 

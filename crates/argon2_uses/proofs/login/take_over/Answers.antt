@@ -1,7 +1,7 @@
 use Rattle.std.proofs.Common.{inr, subst}
 use Rattle.std.specs.FinMap.{get}
-use Rattle.rand_core.specs.Stream.{fill_bytes}
-use Rattle.argon2.specs.Login.{LoginAnswer, store_of}
+use Rattle.argon2.specs.TextHashing.{drawn_salt}
+use Rattle.argon2.specs.Login.{IsLoginAnswer, store_of}
 use Rattle.argon2_uses.proofs.login.take_over.Goals as goal
 
 pub returns-clause-answer : goal.returns-clause-answer
@@ -10,7 +10,7 @@ returns-clause-answer g c =
     inr (
       between,
       c.in_ok-add.ensures.step,
-      subst (λ target. LoginAnswer target between c.args.name.now c.args.password.now
-          (fill_bytes 16 (g.R.Rng.stream c.args.rng.now)).0 (get between c.args.name.now) c.login.result
+      subst (λ target. IsLoginAnswer target between c.args.name.now c.args.password.now
+          (drawn_salt (g.R.Rng.stream c.args.rng.now)) (get between c.args.name.now) c.login.result
           (store_of c.login.new.self)) c.in_ok-add.ensures.target c.login.ensures.step,
     )

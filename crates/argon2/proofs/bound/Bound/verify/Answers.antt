@@ -1,11 +1,11 @@
 use Rattle.argon2.proofs.Imports.{AcceptsBy, arith, Err, Fault, inl, inr, IsErrAnd, IsVerifyAnswer, List, Ok, OutOfMemory, Phc, refl, Result, result_and_then, rules, secret_of, stored_of, subst, ℕ, ◌≡◌, ◌⊎◌}
 use Rattle.argon2.proofs.Imports.{phc_of}
 use Rattle.argon2.proofs.password_hash_lemmas.Verified.{exact}
-use Rattle.argon2.specs.Bound.{HashRefusal, IsBoundAnswer, StoredRefusal}
+use Rattle.argon2.specs.Bound.{IsHashRefusal, IsBoundAnswer, IsStoredRefusal}
 use Rattle.argon2.specs.declared.bound.Bound.{Bound}
 use Rattle.argon2.specs.declared.bound.BoundError.{BoundError}
 use Rattle.argon2.specs.declared.bound.BoundError.TheVariants.{Refused, TooExpensive}
-use Rattle.argon2_base.specs.PhcText.{PhcText}
+use Rattle.argon2_base.specs.PhcText.{IsPhcText}
 use Rattle.argon2.proofs.bound.Bound.verify.Goals as goal
 
 err_is : {X E : Type 0} (r : Result X E) (e : E) → IsErrAnd r (λ f. f ≡ e) → r ≡ Err e
@@ -17,12 +17,12 @@ faulty : {X Y : Type 0} (r : Result X Fault) (next : X → Result Y Fault) (faul
 faulty r next fault is = grind arith
 
 -- why nothing is read is what verifying answers
-unread : (bound : Bound) (secret password text : List ℕ) (v : Phc) (e : BoundError) → PhcText text v
-    → ((w : Phc) → PhcText text w → v ≡ w) → StoredRefusal bound v e → IsBoundAnswer bound secret password text (Err e)
+unread : (bound : Bound) (secret password text : List ℕ) (v : Phc) (e : BoundError) → IsPhcText text v
+    → ((w : Phc) → IsPhcText text w → v ≡ w) → IsStoredRefusal bound v e → IsBoundAnswer bound secret password text (Err e)
 unread bound secret password text v TooExpensive found only why =
-    inl ((λ w is. subst (λ x. HashRefusal bound x TooExpensive) (only w is) why), inl (v, found))
+    inl ((λ w is. subst (λ x. IsHashRefusal bound x TooExpensive) (only w is) why), inl (v, found))
 unread bound secret password text v (Refused e) found only (inl why) =
-    inl ((λ w is. subst (λ x. HashRefusal bound x (Refused e)) (only w is) why), inl (v, found))
+    inl ((λ w is. subst (λ x. IsHashRefusal bound x (Refused e)) (only w is) why), inl (v, found))
 unread bound secret password text v (Refused e) found only (inr (within, is)) =
     inr (v, found, within, Err e, inl (faulty (stored_of v) _ _ is), refl)
 

@@ -1,4 +1,4 @@
-use Rattle.argon2_accounts.proofs.AccountLemmas.{arith, ChangeRefusal, changes, edited, err_is, inl, inr, keeps, policy_value, reads_leave, refl, rules, Some, subst, sym, ◌∙◌}
+use Rattle.argon2_accounts.proofs.AccountLemmas.{arith, IsChangeRefusal, changes, edited, err_is, inl, inr, keeps, policy_value, reads_leave, refl, rules, Some, subst, sym, ◌∙◌}
 use Rattle.argon2_accounts.proofs.AccountLemmas.{AdmitsStored, text_or}
 use Rattle.argon2_accounts.proofs.accounts.Accounts.change_password.Goals as goal
 
@@ -16,7 +16,7 @@ returns-in_err-fresh-clause-names g c = reads_leave _ c.in_ok-text.ensures.reads
     let same = c.as_deref-stored.ensures.value ∙ sym (c.in_ok-text.ensures.shows names has honest) in
     rw (err_is _ _ c.from_residual-in_err-fresh.ensures.1) (keeps policy c.args.name.now c.args.old.now names c.args.new.now
     c.in_err-fresh.field-0.0 (g.R.Rng.stream c.args.rng.now) (g.R.Rng.stream c.change_password.new.rng)
-    (subst (λ o. ChangeRefusal policy c.args.old.now c.args.new.now o (g.R.Rng.stream c.args.rng.now)
+    (subst (λ o. IsChangeRefusal policy c.args.old.now c.args.new.now o (g.R.Rng.stream c.args.rng.now)
     (g.R.Rng.stream c.change_password.new.rng) c.in_err-fresh.field-0.0) same
     c.in_err-fresh.ensures.made)))
 

@@ -1,4 +1,4 @@
-use Rattle.argon2_accounts.proofs.AccountLemmas.{AdmitsStored, arith, Denies, draws, edited, err_is, fill_bytes, inl, inr, LogsIn, phc_of, policy_value, reads_leave, refl, renews, rules}
+use Rattle.argon2_accounts.proofs.AccountLemmas.{AdmitsStored, arith, Denies, draws, edited, err_is, drawn_salt, inl, inr, LogsIn, phc_of, policy_value, reads_leave, refl, renews, rules}
 use Rattle.argon2_accounts.proofs.AccountLemmas.{SaysValue, Some, subst, sym, text_or, ◌∙◌}
 use Rattle.argon2_accounts.proofs.accounts.Accounts.log_in.Goals as goal
 
@@ -34,7 +34,7 @@ returns-in_default-clause-names g c = reads_leave _ c.in_ok-text.ensures.reads (
 pub returns-clause-call : goal.returns-clause-call
 returns-clause-call g c =
     let policy = policy_value c.args.self.now.policy in
-    let drawn = (fill_bytes 16 (g.R.Rng.stream c.args.rng.now)).0 in
+    let drawn = (drawn_salt (g.R.Rng.stream c.args.rng.now)) in
     let did = (rw c.in-Some.is at c.in_ok-accepted.ensures.fresh).0 refl in
     let (v, says, logs_in) = rw c.in-Some.is at c.in_ok-accepted.ensures.step in
     let step = subst (λ a. LogsIn policy c.args.password.now drawn v a (phc_of c.in-Some.fresh)) did logs_in in
@@ -44,7 +44,7 @@ pub returns-clause-names : goal.returns-clause-names
 returns-clause-names g c = edited _ c.in_ok-text.ensures.reads c.replace-renewed.ensures (λ before after has honest answers.
     let policy = policy_value c.args.self.now.policy in
     let password = c.args.password.now in
-    let drawn = (fill_bytes 16 (g.R.Rng.stream c.args.rng.now)).0 in
+    let drawn = (drawn_salt (g.R.Rng.stream c.args.rng.now)) in
     let did = (rw c.in-Some.is at c.in_ok-accepted.ensures.fresh).0 refl in
     let (v, says, logs_in) = rw c.in-Some.is at c.in_ok-accepted.ensures.step in
     let step = subst (λ a. LogsIn policy password drawn v a (phc_of c.in-Some.fresh)) did logs_in in

@@ -1,12 +1,12 @@
-use Rattle.argon2_passwd.proofs.Common.{arith, Bool, common_steps, entry_or_flaw, err_is, inl, has_text, Line, line_has_name, List, new_line, None, refl, ℕ, ◌||◌, ◌∙◌, ◌≡◌}
+use Rattle.argon2_passwd.proofs.Common.{arith, Bool, common_steps, entry_or_flaw, err_is, inl, has_text, LineValue, line_has_name, List, new_line, None, refl, ℕ, ◌||◌, ◌∙◌, ◌≡◌}
 use Rattle.argon2_passwd.proofs.Looks.{looks_then, names_stay, was_honest}
 use Rattle.argon2_passwd.proofs.run.others.new_lines.Goals as goal
 
-same_line : (line : Line) (p q : List ℕ → Bool) → ((name : List ℕ) → p name ≡ q name) → new_line q line ≡ new_line p line
+same_line : (line : LineValue) (p q : List ℕ → Bool) → ((name : List ℕ) → p name ≡ q name) → new_line q line ≡ new_line p line
 same_line line p q same = grind (arith, same)
 
 -- the names of the lines so far are taken, and those of the file
-joined : (line : Line) (is_taken old new known : List ℕ → Bool) → ((name : List ℕ) → is_taken name ≡ (old name || known name))
+joined : (line : LineValue) (is_taken old new known : List ℕ → Bool) → ((name : List ℕ) → is_taken name ≡ (old name || known name))
     → ((name : List ℕ) → new name ≡ (line_has_name line name || old name))
     → (name : List ℕ) → (line_has_name line name || is_taken name) ≡ (new name || known name)
 joined line is_taken old new known is more name = grind (arith, is name, more name)

@@ -1,4 +1,4 @@
-use Rattle.argon2_store.proofs.Imports.{arith, inl, refl, subst, subst₂, sym, no_doubt, settled_at, over_file, view, FoundIn, IsClean, leaves_quiet, quiet_itself, err_is, AreClean}
+use Rattle.argon2_store.proofs.Imports.{arith, inl, refl, subst, subst₂, sym, no_doubt, settled_at, over_file, view, IsFoundIn, IsClean, leaves_quiet, quiet_itself, err_is, AreClean}
 use Rattle.argon2_store.proofs.NextOpenLemmas.{near_found}
 use Rattle.argon2_store.proofs.OpenLemmas.{is_honest, of_database, seen_same, unharmed_by_reads, unharmed_then}
 use Rattle.argon2_store.proofs.account_file.AccountFile+FileStore+D.open_from.Goals as goal
@@ -20,7 +20,7 @@ returns-in-Ok-true-clause-ready g c =
             (quiet_itself over_file c.load.new.store) clean (c.in-Ok-true.ensures.«open» clean);
       },
       lines,
-      λ clean. (has.0, subst₂ (FoundIn 4096) (seen_same c.in_default.ensures.reads) (rows clean) (opened clean).2),
+      λ clean. (has.0, subst₂ (IsFoundIn 4096) (seen_same c.in_default.ensures.reads) (rows clean) (opened clean).2),
       λ clean. c.in_default.ensures.whole (opened clean).1,
       λ clean. c.in_default.ensures.known (opened clean).1,
     )
@@ -48,7 +48,7 @@ returns-clause-err g c =
       | in-Ok-false w ↦ rw w.error-is record {
         kind = inl refl;
         row = λ is clean names lines holds.
-            let found = subst (λ i. FoundIn 4096 i ((view c.in_ok-store.store).committed 0))
+            let found = subst (λ i. IsFoundIn 4096 i ((view c.in_ok-store.store).committed 0))
             (seen_same c.in_default.ensures.reads) ((c.in_ok-store.ensures.opened (search arith)).2) in
             w.in-Ok-false.ensures.refused w.in-Ok-false.field-0-test (now clean) names holds.0 lines
             (sym ((near_found _ _ found).0 _ holds.1));

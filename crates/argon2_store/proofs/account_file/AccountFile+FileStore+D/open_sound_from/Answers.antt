@@ -1,4 +1,4 @@
-use Rattle.argon2_store.proofs.Imports.{subst, sym, settled_at, not_broken, over_file, view, AreSound, FoundIn, IsClean, leaves_quiet, quiet_itself, err_is}
+use Rattle.argon2_store.proofs.Imports.{subst, sym, settled_at, not_broken, over_file, view, AreSound, IsFoundIn, IsClean, leaves_quiet, quiet_itself, err_is}
 use Rattle.argon2_store.proofs.NextOpenLemmas.{has_held, sound_of}
 use Rattle.argon2_store.proofs.OpenLemmas.{clean_before, of_database, seen_same, unharmed_then}
 use Rattle.argon2_store.proofs.account_file.AccountFile+FileStore+D.open_sound_from.Goals as goal
@@ -23,7 +23,7 @@ invariant_of-result g c =
     let it = has_held c.in_ok-store.store _ (λ clean. c.requires.sound (clean_before reads (opened clean).1))
     (λ clean. (
       (opened clean).0,
-      subst (λ i. FoundIn 4096 i ((view c.in_ok-store.store).committed 0)) (seen_same reads)
+      subst (λ i. IsFoundIn 4096 i ((view c.in_ok-store.store).committed 0)) (seen_same reads)
           (opened clean).2,
     )) in
     record { kept = ∣ (it.0, it.1) ∣₁ }
@@ -36,7 +36,7 @@ returns-clause-ready g c =
     has_held c.in_ok-store.store _ (λ clean. c.requires.sound (clean_before reads (opened clean).1))
     (λ clean. (
       (opened clean).0,
-      subst (λ i. FoundIn 4096 i ((view c.in_ok-store.store).committed 0)) (seen_same reads)
+      subst (λ i. IsFoundIn 4096 i ((view c.in_ok-store.store).committed 0)) (seen_same reads)
           (opened clean).2,
     )) in
     let is_open = λ (clean : IsClean (view c.in_ok-store.store)). (not_broken _ _ (opened clean).0.unbroken).1 in (

@@ -1,10 +1,10 @@
 use Rattle.argon2.proofs.Imports.{◌≤◌, ap, arith, ◌∙◌, inl, ident_text, algorithm_name, version_number, parameters_of, settings_of, tag_length, target_of, ◌≡◌, ℕ, List, length, Ok}
-use Rattle.argon2.proofs.Imports.{nat_tests, Phc, Target, hash_value, hash_outcome}
+use Rattle.argon2.proofs.Imports.{nat_tests, Phc, TargetValue, hash_value, hash_outcome}
 use Rattle.argon2.proofs.password_hash_lemmas.MadeValues.{is_made, is_target, made_accepted, made_shows}
 use Rattle.argon2.proofs.password_hash.hashing.Argon2PasswordHasherPasswordHash.hash_password_with_salt.Goals as goal
 
 -- the answer if a value was made
-answer_made : (target : Target) (password salt : List ℕ) → 8 ≤ length salt → length salt ≤ 48
+answer_made : (target : TargetValue) (password salt : List ℕ) → 8 ≤ length salt → length salt ≤ 48
     → tag_length target.settings ≤ 64 → (v : Phc) → v ≡ hash_value target password salt → length password ≤ 4294967295
     → Ok v ≡ hash_outcome target password salt
 answer_made target password salt least most fits v is short = grind (arith, nat_tests)

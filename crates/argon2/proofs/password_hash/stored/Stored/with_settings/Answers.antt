@@ -1,5 +1,5 @@
 use Rattle.argon2.proofs.Imports.{◌≡◌, Ok, length, ap, rules, ◌∙◌, option_map, phc_of, settings_value, shown_settings, ℕ, List, Option, arith}
-use Rattle.argon2.proofs.Imports.{Pair, Phc, Parameters, Settings, params_of}
+use Rattle.argon2.proofs.Imports.{Pair, Phc, Parameters, SettingsValue, params_of}
 use Rattle.argon2.proofs.password_hash.stored.Stored.with_settings.Goals as goal
 
 -- parameters that are read have the length that is given
@@ -8,7 +8,7 @@ read_length : (output_len : Option ℕ) (ps : List Pair) (q : Parameters) → Ok
 read_length output_len ps q is = grind arith
 
 -- settings that a value shows have the length of its hash
-shown_length : (v : Phc) (settings : Settings) → Ok settings ≡ shown_settings v
+shown_length : (v : Phc) (settings : SettingsValue) → Ok settings ≡ shown_settings v
     → settings.parameters.output_len ≡ option_map length v.hash
 shown_length v settings is = let same = read_length (option_map length v.hash) v.params in grind arith
 
