@@ -9,8 +9,8 @@ use std::convert::AsSlice;
 use std::marker::Model;
 use std::ops::{BitXor, BitXorAssign};
 
-mod chains;
 mod kernel;
+mod textbook;
 
 /// The words of a block, as a C caller has them.
 pub type Words = [u64; 128];
@@ -103,7 +103,7 @@ impl Block {
         ensures counted { work.new ≡ work.old + 1 }
     {
         work.mixes += 1;
-        Block::from(kernel::mix(&x.words, &y.words))
+        Block::from(textbook::mix(&x.words, &y.words))
     }
 
     /// Mixes the two blocks whose exclusive or is `xor`, as [`mix`](Block::mix) does, by another body,
@@ -178,7 +178,7 @@ impl BitXorAssign<&Block> for Block {
 
     /// The exclusive or with `rhs`, word by word.
     fn bitxor_assign(&mut self, rhs: &Block) {
-        kernel::xor_into(&mut self.words, &rhs.words);
+        xor_words(&mut self.words, &rhs.words);
     }
 }
 
@@ -218,7 +218,7 @@ pub fn mix_words(x: &Words, y: &Words, work: &mut Work) -> Words
     ensures counted { work.new ≡ work.old + 1 }
 {
     let mut r = *x;
-    kernel::xor_into(&mut r, y);
+    xor_words(&mut r, y);
     let mut out = [0; 128];
     put_mixed_words(&mut out, &r, false, work);
     out
@@ -232,12 +232,16 @@ pub fn put_mixed_words(out: &mut Words, xor: &Words, xors: bool, work: &mut Work
     ensures counted { work.new ≡ work.old + 1 }
 {
     work.mixes += 1;
-    chains::mix(out, xor, xors);
+    kernel::mix(out, xor, xors);
 }
 
 /// The exclusive or with the words of a block.
+#[inline(always)]
+#[tactic(auto, using(crate::proofs::block_lemmas::MixingLemmas::block_steps))]
 pub fn xor_words(x: &mut Words, y: &Words)
     ensures { x.new ≡ xor_blocks x.old y.now }
 {
-    kernel::xor_into(x, y)
+    'words: for w in 0..128 {
+        x[w] ^= y[w];
+    }
 }

@@ -74,7 +74,7 @@ impl Argon2<'_> {
             before.now own.old own.new after.now }
     {
         let instance = Instance::new(self, associated);
-        instance.fill_own(before, own, after, at.pass, at.slice, at.lane);
+        instance.fill_own(before, own, after, at);
     }
 
     /// Fills `out`, 1 to 4294967295 bytes, with H' of the exclusive or of the last column's blocks. `last` is the last
@@ -95,32 +95,25 @@ impl<'a> Instance<'a> {
     /// Makes the steps of a lane in a slice. `own` is its segment, `before` has the slices before it,
     /// and `after` those after it.
     #[tactic(auto, using(crate::proofs::context_lemmas::SegmentColumns::steps))]
-    fn fill_own(
-        &self,
-        before: &[Words],
-        own: &mut [Words],
-        after: &[Words],
-        pass: u32,
-        slice: u32,
-        lane: u32,
-    )
-        requires { AreLengths self.now slice lane (length before.now) (length own.old)
+    fn fill_own(&self, before: &[Words], own: &mut [Words], after: &[Words], at: Segment)
+        requires { AreLengths self.now at.slice at.lane (length before.now) (length own.old)
             (length after.now) }
-        ensures { FillsSegment self.now pass slice lane before.now own.old own.new after.now }
+        ensures { FillsSegment self.now at.pass at.slice at.lane before.now own.old own.new
+            after.now }
     {
         let segment = self.segment_length();
-        let start = self.first_index(pass, slice);
+        let start = self.first_index(at.pass, at.slice);
         let first = Step {
-            pass,
-            lane,
-            slice,
+            pass: at.pass,
+            lane: at.lane,
+            slice: at.slice,
             index: 0,
         };
         let mut addresses = self.addresses(first, &mut Work::new());
         for index in start..segment {
-            let at = Step { index, ..first };
-            self.renew(&mut addresses, at, &mut Work::new());
-            self.step_own(before, own, after, &addresses, at);
+            let step = Step { index, ..first };
+            self.renew(&mut addresses, step, &mut Work::new());
+            self.step_own(before, own, after, &addresses, step);
         }
     }
 

@@ -1,27 +1,42 @@
-//! The mixing of two blocks over sixteen vectors of eight words: lane i of vector k is word k of row i,
-//! and then word k of column i, so that P goes on eight rows and on eight columns at once.
-#![tactic(auto, using(crate::proofs::block_lemmas::LaneLemmas::lane_steps))]
+//! The mixing of two blocks over eight vectors of sixteen words, each a row. P goes on four rows or four
+//! columns at once, over four vectors: then GB is four chains, none of which waits for another.
 
-ghost use Rattle.std.specs.Prelude.{◌≡◌, ℕ, ◌+◌, ◌*◌, ◌/◌, ◌%◌, ◌<◌, ◌≤◌, length, slice_index, bit_xor, ◌==◌, if◌then◌else◌};
-ghost use Rattle.argon2_base.specs.Block.{gb, mixed, perm, row, xor_blocks};
-ghost use Rattle.argon2_base.specs.Lanes.{exchanged_left, exchanged_right, lane, lane_word, words_in_eights};
+ghost use Rattle.std.specs.Prelude.{◌≡◌, ℕ, ◌+◌, ◌-◌, ◌*◌, ◌/◌, ◌%◌, ◌<◌, ◌≤◌, List, length, slice_index, bit_xor, if◌then◌else◌};
+ghost use Rattle.argon2_base.specs.Block.{add_mul, gb, mixed, perm, xor_blocks, xor_rotate};
+ghost use Rattle.argon2_base.specs.Lanes.{column_lanes, exchanged_left, exchanged_right, fours, half_word, lane_word, pairs, vector_words, written};
 
-use super::chains::{self, left_half, right_half};
+use super::textbook;
 use std::simd::{u64x8, u64x16};
 
-// The words of a, and then those of b. Both stay in the registers where they are.
+// u + v + 2 * low32(u) * low32(v) in each lane.
 #[inline(always)]
-fn side_by_side(a: u64x8, b: u64x8) -> u64x16
-    ensures left { (j : ℕ) → j < 8 → slice_index result (0 + j) ≡ slice_index a j }
-    ensures right { (j : ℕ) → j < 8 → slice_index result (8 + j) ≡ slice_index b j }
+#[tactic(auto, using(crate::proofs::block_lemmas::LaneLemmas::lane_steps), unfolding(crate::specs::Block::add_mul))]
+fn add_mul(a: u64x16, b: u64x16) -> u64x16
+    ensures { (j : ℕ) → j < 16 → slice_index result j
+        ≡ add_mul (slice_index a j) (slice_index b j) }
 {
-    a.shuffle(b, [0, 1, 2, 3, 4, 5, 6, 7, 8, 9, 10, 11, 12, 13, 14, 15])
+    let low = u64x16::splat(0xffff_ffff);
+    let product = (a & low) * (b & low);
+    a + b + (product + product)
 }
 
-// GB in each lane of the first four vectors, and in step with it of the other four.
+// (a xor b) >>> k in each lane.
 #[inline(always)]
-fn gb_twice(v: [u64x8; 8]) -> [u64x8; 8]
-    ensures first { (j : ℕ) → j < 8
+#[tactic(auto, using(crate::proofs::block_lemmas::LaneLemmas::lane_steps), unfolding(crate::specs::Block::xor_rotate))]
+fn xor_rotate(a: u64x16, b: u64x16, k: u64) -> u64x16
+    requires { (0 < k) × (k < 64) }
+    ensures { (j : ℕ) → j < 16 → slice_index result j
+        ≡ xor_rotate (slice_index a j) (slice_index b j) k }
+{
+    let x = a ^ b;
+    (x >> u64x16::splat(k)) | (x << u64x16::splat(64 - k))
+}
+
+// GB in each lane of four vectors.
+#[inline(always)]
+#[tactic(auto, unfolding(crate::specs::Block::gb))]
+pub(super) fn gb(v: [u64x16; 4]) -> [u64x16; 4]
+    ensures { (j : ℕ) → j < 16
         → (
           lane_word result 0 j,
           lane_word result 1 j,
@@ -29,270 +44,272 @@ fn gb_twice(v: [u64x8; 8]) -> [u64x8; 8]
           lane_word result 3 j,
         )
         ≡ gb (lane_word v 0 j) (lane_word v 1 j) (lane_word v 2 j) (lane_word v 3 j) }
-    ensures second { (j : ℕ) → j < 8
-        → (
-          lane_word result 4 j,
-          lane_word result 5 j,
-          lane_word result 6 j,
-          lane_word result 7 j,
-        )
-        ≡ gb (lane_word v 4 j) (lane_word v 5 j) (lane_word v 6 j) (lane_word v 7 j) }
 {
-    let [a0, b0, c0, d0, a1, b1, c1, d1] = v;
-    let [a, b, c, d] = chains::gb([
-        side_by_side(a0, a1),
-        side_by_side(b0, b1),
-        side_by_side(c0, c1),
-        side_by_side(d0, d1),
-    ]);
-    [
-        left_half(a),
-        left_half(b),
-        left_half(c),
-        left_half(d),
-        right_half(a),
-        right_half(b),
-        right_half(c),
-        right_half(d),
-    ]
+    let [a, b, c, d] = v;
+    let a1 = add_mul(a, b);
+    let d1 = xor_rotate(d, a1, 32);
+    let c1 = add_mul(c, d1);
+    let b1 = xor_rotate(b, c1, 24);
+    let a2 = add_mul(a1, b1);
+    let d2 = xor_rotate(d1, a2, 16);
+    let c2 = add_mul(c1, d2);
+    let b2 = xor_rotate(b1, c2, 63);
+    [a2, b2, c2, d2]
 }
 
-// P in each lane.
+// Each group of four lanes turned by one.
 #[inline(always)]
-#[tactic(auto, unfolding(crate::specs::Block::perm, crate::specs::Block::mix_columns, crate::specs::Block::mix_diagonals))]
-fn perm(v: [u64x8; 16]) -> [u64x8; 16]
-    ensures { (n : ℕ) → n < 8 → lane n result ≡ perm (lane n v) }
+fn fours_by_one(x: u64x16) -> u64x16
+    ensures { (i : ℕ) → i < 4 → (k : ℕ) → k < 4
+        → slice_index result (4 * i + k) ≡ slice_index x (4 * i + (k + 1) % 4) }
 {
-    let [
-        a0,
-        a1,
-        a2,
-        a3,
-        b0,
-        b1,
-        b2,
-        b3,
-        c0,
-        c1,
-        c2,
-        c3,
-        d0,
-        d1,
-        d2,
-        d3,
-    ] = v;
-    let [a0, b0, c0, d0, a1, b1, c1, d1] = gb_twice([a0, b0, c0, d0, a1, b1, c1, d1]);
-    let [a2, b2, c2, d2, a3, b3, c3, d3] = gb_twice([a2, b2, c2, d2, a3, b3, c3, d3]);
-    let [a0, b1, c2, d3, a1, b2, c3, d0] = gb_twice([a0, b1, c2, d3, a1, b2, c3, d0]);
-    let [a2, b3, c0, d1, a3, b0, c1, d2] = gb_twice([a2, b3, c0, d1, a3, b0, c1, d2]);
-    [
-        a0, a1, a2, a3, b0, b1, b2, b3, c0, c1, c2, c3, d0, d1, d2, d3,
-    ]
+    x.swizzle([1, 2, 3, 0, 5, 6, 7, 4, 9, 10, 11, 8, 13, 14, 15, 12])
 }
 
-// The lanes of two vectors in turn.
+// Each group of four lanes turned by two.
 #[inline(always)]
-fn interleave(a: u64x8, b: u64x8) -> (u64x8, u64x8)
-    ensures left { (j : ℕ) → j < 8 → slice_index result.0 j
-        ≡ slice_index (if j % 2 == 0 then a else b) (j / 2) }
-    ensures right { (j : ℕ) → j < 8 → slice_index result.1 j
-        ≡ slice_index (if j % 2 == 0 then a else b) (4 + j / 2) }
+fn fours_by_two(x: u64x16) -> u64x16
+    ensures { (i : ℕ) → i < 4 → (k : ℕ) → k < 4
+        → slice_index result (4 * i + k) ≡ slice_index x (4 * i + (k + 2) % 4) }
 {
-    a.interleave(b)
+    x.swizzle([2, 3, 0, 1, 6, 7, 4, 5, 10, 11, 8, 9, 14, 15, 12, 13])
 }
 
-// The odd lanes of a and the even lanes of b change places.
+// Each group of four lanes turned by three.
 #[inline(always)]
-fn exchange_ones(a: u64x8, b: u64x8) -> (u64x8, u64x8)
-    ensures left { result.0 ≡ exchanged_left 8 1 a b }
-    ensures right { result.1 ≡ exchanged_right 8 1 a b }
+fn fours_by_three(x: u64x16) -> u64x16
+    ensures { (i : ℕ) → i < 4 → (k : ℕ) → k < 4
+        → slice_index result (4 * i + k) ≡ slice_index x (4 * i + (k + 3) % 4) }
 {
-    let left = a.shuffle(b, [0, 8, 2, 10, 4, 12, 6, 14]);
-    let right = a.shuffle(b, [1, 9, 3, 11, 5, 13, 7, 15]);
-    (left, right)
+    x.swizzle([3, 0, 1, 2, 7, 4, 5, 6, 11, 8, 9, 10, 15, 12, 13, 14])
 }
 
-// The second pair of each half of a and the first pair of each half of b change places.
+// P on each of four rows: word 4 * q + k of row i is lane 4 * i + k of vector q.
 #[inline(always)]
-fn exchange_twos(a: u64x8, b: u64x8) -> (u64x8, u64x8)
-    ensures left { result.0 ≡ exchanged_left 8 2 a b }
-    ensures right { result.1 ≡ exchanged_right 8 2 a b }
+fn perm_fours(v: [u64x16; 4]) -> [u64x16; 4]
+    ensures { (i : ℕ) → i < 4 → fours i result ≡ perm (fours i v) }
 {
-    let left = a.shuffle(b, [0, 1, 8, 9, 4, 5, 12, 13]);
-    let right = a.shuffle(b, [2, 3, 10, 11, 6, 7, 14, 15]);
+    let [a, b, c, d] = gb(v);
+    let [a, b, c, d] = gb([fours_by_three(a), b, fours_by_one(c), fours_by_two(d)]);
+    [fours_by_one(a), b, fours_by_three(c), fours_by_two(d)]
+}
+
+// Each group of two pairs, one in each half, turned by one lane.
+#[inline(always)]
+fn pairs_by_one(x: u64x16) -> u64x16
+    ensures { (j : ℕ) → j < 4 → (k : ℕ) → k < 4
+        → slice_index result (8 * (k / 2) + 2 * j + k % 2)
+        ≡ slice_index x (8 * ((k + 1) % 4 / 2) + 2 * j + (k + 1) % 4 % 2) }
+{
+    x.swizzle([1, 8, 3, 10, 5, 12, 7, 14, 9, 0, 11, 2, 13, 4, 15, 6])
+}
+
+// Each group of two pairs turned by two lanes: the halves change places.
+#[inline(always)]
+fn pairs_by_two(x: u64x16) -> u64x16
+    ensures { (j : ℕ) → j < 4 → (k : ℕ) → k < 4
+        → slice_index result (8 * (k / 2) + 2 * j + k % 2)
+        ≡ slice_index x (8 * ((k + 2) % 4 / 2) + 2 * j + (k + 2) % 4 % 2) }
+{
+    x.swizzle([8, 9, 10, 11, 12, 13, 14, 15, 0, 1, 2, 3, 4, 5, 6, 7])
+}
+
+// Each group of two pairs turned by three lanes.
+#[inline(always)]
+fn pairs_by_three(x: u64x16) -> u64x16
+    ensures { (j : ℕ) → j < 4 → (k : ℕ) → k < 4
+        → slice_index result (8 * (k / 2) + 2 * j + k % 2)
+        ≡ slice_index x (8 * ((k + 3) % 4 / 2) + 2 * j + (k + 3) % 4 % 2) }
+{
+    x.swizzle([9, 0, 11, 2, 13, 4, 15, 6, 1, 8, 3, 10, 5, 12, 7, 14])
+}
+
+// P on each of four columns: word 4 * q + k of column j is lane 8 * (k / 2) + 2 * j + k % 2 of vector q.
+#[inline(always)]
+fn perm_pairs(v: [u64x16; 4]) -> [u64x16; 4]
+    ensures { (j : ℕ) → j < 4 → pairs j result ≡ perm (pairs j v) }
+{
+    let [a, b, c, d] = gb(v);
+    let [a, b, c, d] = gb([pairs_by_three(a), b, pairs_by_one(c), pairs_by_two(d)]);
+    [pairs_by_one(a), b, pairs_by_three(c), pairs_by_two(d)]
+}
+
+// The second four lanes of each half of a and the first four of each half of b change places.
+#[inline(always)]
+fn exchange_fours(a: u64x16, b: u64x16) -> (u64x16, u64x16)
+    ensures left { result.0 ≡ exchanged_left 16 4 a b }
+    ensures right { result.1 ≡ exchanged_right 16 4 a b }
+{
+    let left = a.shuffle(
+        b,
+        [0, 1, 2, 3, 16, 17, 18, 19, 8, 9, 10, 11, 24, 25, 26, 27],
+    );
+    let right = a.shuffle(
+        b,
+        [4, 5, 6, 7, 20, 21, 22, 23, 12, 13, 14, 15, 28, 29, 30, 31],
+    );
     (left, right)
 }
 
 // The second half of a and the first half of b change places.
 #[inline(always)]
-fn exchange_fours(a: u64x8, b: u64x8) -> (u64x8, u64x8)
-    ensures left { result.0 ≡ exchanged_left 8 4 a b }
-    ensures right { result.1 ≡ exchanged_right 8 4 a b }
+fn exchange_halves(a: u64x16, b: u64x16) -> (u64x16, u64x16)
+    ensures left { result.0 ≡ exchanged_left 16 8 a b }
+    ensures right { result.1 ≡ exchanged_right 16 8 a b }
 {
-    let left = a.shuffle(b, [0, 1, 2, 3, 8, 9, 10, 11]);
-    let right = a.shuffle(b, [4, 5, 6, 7, 12, 13, 14, 15]);
+    let left = a.shuffle(b, [0, 1, 2, 3, 4, 5, 6, 7, 16, 17, 18, 19, 20, 21, 22, 23]);
+    let right = a.shuffle(
+        b,
+        [8, 9, 10, 11, 12, 13, 14, 15, 24, 25, 26, 27, 28, 29, 30, 31],
+    );
     (left, right)
 }
 
-// Lane i of vector k goes to lane k of vector i.
+// Group i of vector q goes to group q of vector i.
 #[inline(always)]
-fn transpose(x: [u64x8; 8]) -> [u64x8; 8]
-    ensures { (i k : ℕ) → i < 8 → k < 8 → lane_word result i k ≡ lane_word x k i }
+fn transpose(x: [u64x16; 4]) -> [u64x16; 4]
+    ensures to_fours { (i : ℕ) → i < 4 → fours i result ≡ vector_words i x }
+    ensures to_vectors { (i : ℕ) → i < 4 → vector_words i result ≡ fours i x }
 {
-    let [x0, x1, x2, x3, x4, x5, x6, x7] = x;
-    let (a0, a1) = exchange_ones(x0, x1);
-    let (a2, a3) = exchange_ones(x2, x3);
-    let (a4, a5) = exchange_ones(x4, x5);
-    let (a6, a7) = exchange_ones(x6, x7);
-    let (b0, b2) = exchange_twos(a0, a2);
-    let (b1, b3) = exchange_twos(a1, a3);
-    let (b4, b6) = exchange_twos(a4, a6);
-    let (b5, b7) = exchange_twos(a5, a7);
-    let (c0, c4) = exchange_fours(b0, b4);
-    let (c1, c5) = exchange_fours(b1, b5);
-    let (c2, c6) = exchange_fours(b2, b6);
-    let (c3, c7) = exchange_fours(b3, b7);
-    [c0, c1, c2, c3, c4, c5, c6, c7]
+    let [x0, x1, x2, x3] = x;
+    let (a0, a1) = exchange_fours(x0, x1);
+    let (a2, a3) = exchange_fours(x2, x3);
+    let (b0, b2) = exchange_halves(a0, a2);
+    let (b1, b3) = exchange_halves(a1, a3);
+    [b0, b1, b2, b3]
 }
 
-// The eight words from a place on.
+// P on four rows.
 #[inline(always)]
-pub(super) fn load(words: &[u64], at: usize) -> u64x8
-    requires { at + 8 ≤ length words.now }
-    ensures { (k : ℕ) → k < 8 → slice_index result k ≡ slice_index words.now (at + k) }
+fn four_rows(x: [u64x16; 4]) -> [u64x16; 4]
+    ensures { (i : ℕ) → i < 4 → vector_words i result ≡ perm (vector_words i x) }
 {
-    u64x8::from_slice(&words[at..])
+    transpose(perm_fours(transpose(x)))
 }
 
-// Eight words of the exclusive or of two blocks, from a place on.
+// P on each row.
 #[inline(always)]
-#[tactic(auto, using(crate::proofs::block_lemmas::LaneLemmas::lane_steps), unfolding(crate::specs::Block::xor_blocks))]
-fn load_xor(x: &[u64; 128], y: &[u64; 128], at: usize) -> u64x8
-    requires { at + 8 ≤ 128 }
-    ensures { (k : ℕ) → k < 8 → slice_index result k
-        ≡ slice_index (xor_blocks x.now y.now) (at + k) }
+fn rows(r: [u64x16; 8]) -> [u64x16; 8]
+    ensures { (i : ℕ) → i < 8 → vector_words i result ≡ perm (vector_words i r) }
 {
-    load(x, at) ^ load(y, at)
+    let [r0, r1, r2, r3, r4, r5, r6, r7] = r;
+    let [r0, r1, r2, r3] = four_rows([r0, r1, r2, r3]);
+    let [r4, r5, r6, r7] = four_rows([r4, r5, r6, r7]);
+    [r0, r1, r2, r3, r4, r5, r6, r7]
 }
 
-// Writes the exclusive or of two vectors from a place on.
+// P on the columns of the left halves of the rows.
 #[inline(always)]
-pub(super) fn store_xor(words: &mut [u64], at: usize, v: u64x8, r: u64x8)
-    requires { at + 8 ≤ length words.old }
-    ensures here { (k : ℕ) → k < 8 → slice_index words.new (at + k)
-        ≡ bit_xor (slice_index v k) (slice_index r k) }
-    ensures below { (k : ℕ) → k < at → slice_index words.new k ≡ slice_index words.old k }
-    ensures above { (k : ℕ) → at + 8 ≤ k → slice_index words.new k ≡ slice_index words.old k }
+fn left_columns(r: &[u64x16; 8]) -> [u64x16; 4]
+    ensures { (j : ℕ) → j < 4 → pairs j result ≡ perm (column_lanes (0 + j) r.now) }
 {
-    (v ^ r).copy_to_slice(&mut words[at..]);
+    let (a, _) = exchange_halves(r[0], r[1]);
+    let (b, _) = exchange_halves(r[2], r[3]);
+    let (c, _) = exchange_halves(r[4], r[5]);
+    let (d, _) = exchange_halves(r[6], r[7]);
+    perm_pairs([a, b, c, d])
 }
 
-// The exclusive or of two blocks, eight words a vector.
+// P on the columns of the right halves of the rows.
 #[inline(always)]
-fn exclusive_or(x: &[u64; 128], y: &[u64; 128]) -> [u64x8; 16]
-    ensures { words_in_eights result ≡ xor_blocks x.now y.now }
+fn right_columns(r: &[u64x16; 8]) -> [u64x16; 4]
+    ensures { (j : ℕ) → j < 4 → pairs j result ≡ perm (column_lanes (4 + j) r.now) }
+{
+    let (_, a) = exchange_halves(r[0], r[1]);
+    let (_, b) = exchange_halves(r[2], r[3]);
+    let (_, c) = exchange_halves(r[4], r[5]);
+    let (_, d) = exchange_halves(r[6], r[7]);
+    perm_pairs([a, b, c, d])
+}
+
+// The sixteen words from a place on.
+#[inline(always)]
+fn load(words: &[u64], at: usize) -> u64x16
+    requires { at + 16 ≤ length words.now }
+    ensures { (k : ℕ) → k < 16 → slice_index result k ≡ slice_index words.now (at + k) }
+{
+    u64x16::from_slice(&words[at..])
+}
+
+// The rows of a block.
+#[inline(always)]
+fn rows_of(r: &[u64; 128]) -> [u64x16; 8]
+    ensures { (i : ℕ) → i < 8 → (k : ℕ) → k < 16
+        → lane_word result i k ≡ slice_index r.now (16 * i + k) }
 {
     [
-        load_xor(x, y, 0),
-        load_xor(x, y, 8),
-        load_xor(x, y, 16),
-        load_xor(x, y, 24),
-        load_xor(x, y, 32),
-        load_xor(x, y, 40),
-        load_xor(x, y, 48),
-        load_xor(x, y, 56),
-        load_xor(x, y, 64),
-        load_xor(x, y, 72),
-        load_xor(x, y, 80),
-        load_xor(x, y, 88),
-        load_xor(x, y, 96),
-        load_xor(x, y, 104),
-        load_xor(x, y, 112),
-        load_xor(x, y, 120),
+        load(r, 0),
+        load(r, 16),
+        load(r, 32),
+        load(r, 48),
+        load(r, 64),
+        load(r, 80),
+        load(r, 96),
+        load(r, 112),
     ]
 }
 
-// From words in eights to words of rows: lane i of vector k is word k of row i.
+// The first eight lanes of a vector.
 #[inline(always)]
-fn rows(r: &[u64x8; 16]) -> [u64x8; 16]
-    ensures { (i : ℕ) → i < 8 → lane i result ≡ row i (words_in_eights r.now) }
+pub(super) fn left_half(x: u64x16) -> u64x8
+    ensures { (k : ℕ) → k < 8 → slice_index result k ≡ slice_index x (0 + k) }
 {
-    let [a0, a1, a2, a3, a4, a5, a6, a7] = transpose([
-        r[0], r[2], r[4], r[6], r[8], r[10], r[12], r[14],
-    ]);
-    let [b0, b1, b2, b3, b4, b5, b6, b7] = transpose([
-        r[1], r[3], r[5], r[7], r[9], r[11], r[13], r[15],
-    ]);
-    [
-        a0, a1, a2, a3, a4, a5, a6, a7, b0, b1, b2, b3, b4, b5, b6, b7,
-    ]
+    x.extract::<0, 8>()
 }
 
-// From words of rows to words of columns: word 2 * i + e of column j is word 2 * j + e of row i.
+// The last eight lanes of a vector.
 #[inline(always)]
-fn columns(x: [u64x8; 16]) -> [u64x8; 16]
-    ensures { (i j e : ℕ) → i < 8 → j < 8 → e < 2 → lane_word result (2 * i + e) j
-        ≡ lane_word x (2 * j + e) i }
+pub(super) fn right_half(x: u64x16) -> u64x8
+    ensures { (k : ℕ) → k < 8 → slice_index result k ≡ slice_index x (8 + k) }
 {
-    let [a0, a1, a2, a3, a4, a5, a6, a7] = transpose([
-        x[0], x[2], x[4], x[6], x[8], x[10], x[12], x[14],
-    ]);
-    let [b0, b1, b2, b3, b4, b5, b6, b7] = transpose([
-        x[1], x[3], x[5], x[7], x[9], x[11], x[13], x[15],
-    ]);
-    [
-        a0, b0, a1, b1, a2, b2, a3, b3, a4, b4, a5, b5, a6, b6, a7, b7,
-    ]
+    x.extract::<8, 8>()
 }
 
-// The words of row i of the columns, each xored with its word of the vectors left and right.
+// Writes eight words from a place on, each xored with the word of r there, and if `xors` with the word
+// that it replaces.
 #[inline(always)]
-fn store_row(out: &mut [u64], i: usize, even: u64x8, odd: u64x8, left: u64x8, right: u64x8)
-    requires { (i < 8) × (length out.old ≡ 128) }
-    ensures left { (k : ℕ) → k < 8 → slice_index out.new (16 * i + k)
-        ≡ bit_xor (slice_index (if k % 2 == 0 then even else odd) (k / 2)) (slice_index left k) }
-    ensures right { (k : ℕ) → k < 8 → slice_index out.new (16 * i + 8 + k)
-        ≡ bit_xor (slice_index (if k % 2 == 0 then even else odd) (4 + k / 2))
-        (slice_index right k) }
-    ensures below { (k : ℕ) → k < 16 * i → slice_index out.new k ≡ slice_index out.old k }
+#[tactic(auto, using(crate::proofs::block_lemmas::LaneLemmas::lane_steps))]
+fn put(out: &mut [u64], at: usize, v: u64x8, r: &[u64; 128], xors: bool)
+    requires { (at + 8 ≤ 128) × (length out.old ≡ 128) }
+    ensures size { length out.new ≡ 128 }
+    ensures here { (k : ℕ) → k < 8 → slice_index out.new (at + k)
+        ≡ written xors (slice_index out.old (at + k))
+        (bit_xor (slice_index v k) (slice_index r.now (at + k))) }
+    ensures below { (k : ℕ) → k < at → slice_index out.new k ≡ slice_index out.old k }
+    ensures above { (k : ℕ) → at + 8 ≤ k → slice_index out.new k ≡ slice_index out.old k }
 {
-    let (low, high) = interleave(even, odd);
-    store_xor(out, 16 * i, low, left);
-    store_xor(out, 16 * i + 8, high, right);
-}
-
-// The words of the columns in their places, each xored with the word of r there.
-#[inline(always)]
-fn words(columns: &[u64x8; 16], r: &[u64x8; 16]) -> [u64; 128]
-    ensures { (w : ℕ) → w < 128 → slice_index result w
-        ≡ bit_xor (lane_word columns.now (2 * (w / 16) + w % 2) (w % 16 / 2))
-        (slice_index (words_in_eights r.now) w) }
-{
-    let mut out = [0; 128];
-    'rows: for i in 0..8 {
-        let (even, odd) = (columns[2 * i], columns[2 * i + 1]);
-        store_row(&mut out, i, even, odd, r[2 * i], r[2 * i + 1]);
-    }
-    out
-}
-
-/// The exclusive or, word by word.
-#[inline(always)]
-#[tactic(auto, using(crate::proofs::block_lemmas::MixingLemmas::block_steps))]
-pub fn xor_into(x: &mut [u64; 128], y: &[u64; 128])
-    ensures { x.new ≡ xor_blocks x.old y.now }
-{
-    'words: for w in 0..128 {
-        x[w] ^= y[w];
+    let r = textbook::load(r, at);
+    if xors {
+        let old = textbook::load(out, at);
+        textbook::store_xor(out, at, old, v ^ r);
+    } else {
+        textbook::store_xor(out, at, v, r);
     }
 }
 
-/// G of two blocks.
-pub fn mix(x: &[u64; 128], y: &[u64; 128]) -> [u64; 128]
-    ensures { result ≡ mixed x.now y.now }
+// Writes the words of the columns of half h of the rows, each xored with the word of r in its place, and
+// if `xors` with the word that it replaces.
+#[inline(always)]
+fn put_columns(out: &mut [u64], h: usize, v: [u64x16; 4], r: &[u64; 128], xors: bool)
+    requires { (h < 2) × (length out.old ≡ 128) }
+    ensures size { length out.new ≡ 128 }
+    ensures here { (w : ℕ) → w < 128 → w % 16 / 8 ≡ h → slice_index out.new w
+        ≡ written xors (slice_index out.old w) (bit_xor (half_word v w) (slice_index r.now w)) }
+    ensures others { (w : ℕ) → w % 16 / 8 ≡ 1 - h → slice_index out.new w ≡ slice_index out.old w }
 {
-    let r = exclusive_or(x, y);
-    let across = perm(rows(&r));
-    let down = perm(columns(across));
-    words(&down, &r)
+    'vectors: for i in 0..4 {
+        put(out, 32 * i + 8 * h, left_half(v[i]), r, xors);
+        put(out, 32 * i + 8 * h + 16, right_half(v[i]), r, xors);
+    }
+}
+
+/// G of the two blocks whose exclusive or is `r`. It replaces the words of `out`, or is xored with them if
+/// `xors`.
+pub fn mix(out: &mut [u64; 128], r: &[u64; 128], xors: bool)
+    ensures { (x y : List ℕ) → r.now ≡ xor_blocks x y
+        → out.new ≡ (if xors then xor_blocks out.old (mixed x y) else mixed x y) }
+{
+    let across = rows(rows_of(r));
+    put_columns(out, 0, left_columns(&across), r, xors);
+    put_columns(out, 1, right_columns(&across), r, xors);
 }

@@ -10,23 +10,23 @@ loop-index-init c =
     let start = c.first_index-start.ensures in
     let turns = start.turns in
     let few = start.few in
-    let begins : columns_before ctx c.args.pass c.args.slice ≡ c.args.slice * segment_length ctx + c.first_index-start.result =
+    let begins : columns_before ctx c.args.at.pass c.args.at.slice ≡ c.args.at.slice * segment_length ctx + c.first_index-start.result =
     omega arith in
     let serves : 0 / 128 ≡ (c.first_index-start.result - 1) / 128 = omega arith in
     record {
       size = refl;
       filled = λ first memory parts is.
-          let like = HasBlocksUpTo-like ctx first c.args.pass _ _ memory (λ l _. grind (arith, nat_tests)) in
+          let like = HasBlocksUpTo-like ctx first c.args.at.pass _ _ memory (λ l _. grind (arith, nat_tests)) in
           (memory, (parts, rw (← begins) (like is)));
-      addresses = c.addresses-addresses.ensures.block ∙ same_addresses ctx c.args.pass c.args.lane c.args.slice _ _ serves;
+      addresses = c.addresses-addresses.ensures.block ∙ same_addresses ctx c.args.at.pass c.args.at.lane c.args.at.slice _ _ serves;
     }
 
 pub loop-index-preserved : goal.loop-index-preserved
 loop-index-preserved c =
     let ctx = c.args.self.now in
-    let pass = c.args.pass in
-    let slice = c.args.slice in
-    let lane = c.args.lane in
+    let pass = c.args.at.pass in
+    let slice = c.args.at.slice in
+    let lane = c.args.at.lane in
     let i = c.loop-index.index in
     let n = segment_length ctx in
     let before = c.loop-index.invariant in
@@ -55,6 +55,6 @@ returns c =
           let m = last.filled first memory parts is in
           let turns = c.first_index-start.ensures.turns in
           let s = segment_length c.args.self.now in
-          let fits = in_lane s c.args.slice i c.requires.in_slices lt in
-          grind (arith, nat_tests, m.1.0.in_own i, m.1.1.new c.args.lane (c.args.slice * s + i));
+          let fits = in_lane s c.args.at.slice i c.requires.in_slices lt in
+          grind (arith, nat_tests, m.1.0.in_own i, m.1.1.new c.args.at.lane (c.args.at.slice * s + i));
     }

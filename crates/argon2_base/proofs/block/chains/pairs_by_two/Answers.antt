@@ -1,9 +1,0 @@
-use Rattle.argon2_base.proofs.Imports.{◌+◌, ◌*◌, ◌/◌, ◌%◌, arith}
-use Rattle.argon2_base.proofs.block_lemmas.ChainLemmas.{moved_lane}
-use Rattle.argon2_base.proofs.block.chains.pairs_by_two.Goals as goal
-
-pub returns : goal.returns
-returns c i hi k hk =
-    moved_lane (λ m. 8 * ((2 * (m / 8) + m % 2 + 2) % 4 / 2) + 2 * (m / 2 % 4) + (m + 2) % 2) c.args.x c.fits-x.0
-    (8 * (k / 2) + 2 * i + k % 2) _
-    (omega arith) (omega arith) (omega arith)

@@ -1,0 +1,10 @@
+use Rattle.argon2_base.proofs.Imports.{◌+◌, ◌*◌, ◌/◌, ◌%◌, arith}
+use Rattle.argon2_base.proofs.block_lemmas.ChainLemmas.{group_permuted}
+use Rattle.argon2_base.proofs.block.kernel.perm_pairs.Goals as goal
+
+pub returns : goal.returns
+returns c i h =
+    group_permuted (λ k. 8 * (k / 2) + 2 * i + k % 2) c.args.v _ _ _ _ _ _ _ _ _ _ _ _ _ _
+    (λ k l. c.gb.ensures _ (omega arith)) (c.pairs_by_three.ensures i h) (c.pairs_by_one.ensures i h) (c.pairs_by_two.ensures i h)
+    (λ k l. c.gb-2.ensures _ (omega arith)) (c.pairs_by_one-2.ensures i h) (c.pairs_by_three-2.ensures i h)
+    (c.pairs_by_two-2.ensures i h)
