@@ -17,7 +17,7 @@ pub use Rattle.argon2_passwd.specs.Answers.{AccountFile, AddsEntries, additions,
 pub use Rattle.argon2_passwd.specs.Answers.{FileError, Flaw, flaws_from, get, Ghosts, has_name, HasNames, has_text, IsHonest, IsLooked, IsOfFirst, IsOpened, IsOpenFor}
 pub use Rattle.argon2_passwd.specs.Answers.{Keeps, LineValue, line_has_name, Looks, NameTaken, new_line, new_lines, next_salt, file_failure, OfPassword, option_map, password_of, phc_of, scheme_of}
 pub use Rattle.argon2_passwd.specs.Answers.{AdmitsStored, SaysValue, Serves, Stays, Texts, value_after}
-pub use Rattle.argon2_passwd.specs.Lines.{IsEntryOrFlaw, IsTaken, parts_now, unmarked}
+pub use Rattle.argon2_passwd.specs.Lines.{IsEntryOrFlaw, MayBeAdded, parts_now, unmarked}
 pub use Rattle.argon2_passwd.specs.Passwords.{IsNotNew, IsUnread, line_of}
 pub use Rattle.argon2_passwd.specs.Answers.{Failure, is_denial, status_of}
 use Rattle.argon2_policy.specs.Policy.{IsChangeRefusal, Stream}

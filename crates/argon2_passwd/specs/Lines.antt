@@ -45,9 +45,9 @@ abbrev pub has_scheme : List ℕ → Bool
 has_scheme text = is_some (scheme_of (without_lock text)) && not (has_field (without_lock text))
 
 -- a text of Argon2, locked or not; if any is taken, one in the grammar, or of another scheme
-abbrev pub IsTaken : Bool → List ℕ → Type 0
-IsTaken false text = IsArgon2 (without_lock text)
-IsTaken true text = IsStored text ⊎ IsTrue (has_scheme text)
+abbrev pub MayBeAdded : Bool → List ℕ → Type 0
+MayBeAdded false text = IsArgon2 (without_lock text)
+MayBeAdded true text = IsStored text ⊎ IsTrue (has_scheme text)
 
 -- the name has a control character
 abbrev pub has_control : List ℕ → Bool
@@ -66,7 +66,7 @@ name_flaw name = if (length name == 0) || nat_lt 4096 (length name) then Some Na
 -- the name of a line, and its text without what other programs put before it, if these may be added
 abbrev pub IsEntry : Bool → List ℕ → List ℕ × List ℕ → Type 0
 IsEntry any_text line e = (e.0 ≡ (parts_of line).0) × (e.1 ≡ without_prefix (parts_of line).1)
-    × (length e.1 ≤ 4096) × IsTaken any_text e.1 × (name_flaw e.0 ≡ None)
+    × (length e.1 ≤ 4096) × MayBeAdded any_text e.1 × (name_flaw e.0 ≡ None)
 
 -- one line with the text of another scheme
 abbrev pub IsForeign : List ℕ → Type 0
@@ -74,9 +74,9 @@ IsForeign text = IsLine text × IsTrue (has_scheme text)
 
 -- a text outside the grammar, or one that says a value without settings of Argon2; if any is taken, one that is outside the
 -- grammar and of no other scheme
-abbrev pub IsNotTaken : Bool → List ℕ → Type 0
-IsNotTaken false text = ¬ (IsStored text) ⊎ ((v : Phc) × IsPhcText (without_lock text) v × ¬ (IsOk (shown_settings v)))
-IsNotTaken true text = ¬ (IsStored text) × ¬ (IsForeign text)
+abbrev pub MayNotBeAdded : Bool → List ℕ → Type 0
+MayNotBeAdded false text = ¬ (IsStored text) ⊎ ((v : Phc) × IsPhcText (without_lock text) v × ¬ (IsOk (shown_settings v)))
+MayNotBeAdded true text = ¬ (IsStored text) × ¬ (IsForeign text)
 
 -- what lines say behind a byte order mark
 abbrev pub unmarked : List ℕ → List ℕ
@@ -93,8 +93,8 @@ entry_or_flaw (Err why) = Err why
 -- why the text of a line may not be added, and then why its name may not
 abbrev pub IsFlaw : Bool → List ℕ → List ℕ → Flaw → Type 0
 IsFlaw any_text name text TextLength = 4096 < length text
-IsFlaw any_text name text NoText = (length text ≤ 4096) × IsNotTaken any_text text
-IsFlaw any_text name text why = (length text ≤ 4096) × IsTaken any_text text × (name_flaw name ≡ Some why)
+IsFlaw any_text name text NoText = (length text ≤ 4096) × MayNotBeAdded any_text text
+IsFlaw any_text name text why = (length text ≤ 4096) × MayBeAdded any_text text × (name_flaw name ≡ Some why)
 
 abbrev pub IsEntryOrFlaw : Bool → List ℕ → LineValue → Type 0
 IsEntryOrFlaw any_text line (Ok e) = IsEntry any_text line e

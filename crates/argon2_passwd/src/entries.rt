@@ -1,7 +1,7 @@
 //! A name with its text, a line of standard input.
 
 ghost use Rattle.std.specs.Prelude.{◌≡◌, IfErr, IfOk, IfSome, MatchOption};
-ghost use Rattle.argon2_passwd.specs.Lines.{IsNotTaken, IsTaken, has_control, has_field, has_scheme, name_flaw, parts_now, parts_of};
+ghost use Rattle.argon2_passwd.specs.Lines.{MayNotBeAdded, MayBeAdded, has_control, has_field, has_scheme, name_flaw, parts_now, parts_of};
 ghost use Rattle.argon2_passwd.specs.Failures.{status_of};
 
 use crate::failure::{Failure, Flaw, of_reading};
@@ -32,8 +32,8 @@ pub fn read_all<R: BufRead>(alloc: Global, input: &mut R) -> Result<Vec<u8>, Fai
 
 /// A text that may be added: one of Argon2 with valid settings; if any is taken, one in the grammar, or of another scheme.
 pub fn stored(text: &str, any_text: bool) -> Option<StoredText<'_>>
-    ensures { MatchOption result (IsNotTaken any_text text.now)
-        (λ it. (text_in it ≡ text.now) × IsTaken any_text text.now) }
+    ensures { MatchOption result (MayNotBeAdded any_text text.now)
+        (λ it. (text_in it ≡ text.now) × MayBeAdded any_text text.now) }
 {
     match StoredText::new(text) {
         Ok((text, hash)) if any_text || Settings::try_from(&hash).is_ok() => Some(text),

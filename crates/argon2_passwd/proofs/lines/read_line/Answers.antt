@@ -1,4 +1,4 @@
-use Rattle.argon2_passwd.proofs.Common.{ap, arith, Bool, Flaw, IsTaken, length, List, None, Option, Some, subst, sym, ℕ, ◌≡◌, ◌∙◌}
+use Rattle.argon2_passwd.proofs.Common.{ap, arith, Bool, Flaw, MayBeAdded, length, List, None, Option, Some, subst, sym, ℕ, ◌≡◌, ◌∙◌}
 use Rattle.std.specs.Prelude.{◌≤◌, if◌then◌else◌}
 use Rattle.argon2_programs.specs.Prefixes.{without_prefix}
 use Rattle.argon2_passwd.specs.Lines.{Character, IsFlaw, Mark, NameLength, NoText, Taken, TextLength, name_flaw, parts_of}
@@ -15,7 +15,7 @@ no_text : (a b c : Bool) → ¬ (chosen a b c ≡ Some NoText)
 no_text a b c is = grind arith
 
 -- what the flaw of a name is to its line
-flaw_of_name : (any_text : Bool) (name text : List ℕ) (flaw : Flaw) → length text ≤ 4096 → IsTaken any_text text
+flaw_of_name : (any_text : Bool) (name text : List ℕ) (flaw : Flaw) → length text ≤ 4096 → MayBeAdded any_text text
     → name_flaw name ≡ Some flaw → IsFlaw any_text name text flaw
 flaw_of_name any_text name text TextLength short taken is = absurd (no_length _ _ _ is)
 flaw_of_name any_text name text NoText short taken is = absurd (no_text _ _ _ is)
@@ -31,7 +31,7 @@ returns-in-Some-Some c =
     let short : length c.bare_str-text.result.now ≤ 4096 = grind (arith, c.if-text-gt-LONGEST.false) in
     let flawed = sym (ap name_flaw name) ∙ sym c.name_flaw.ensures ∙ c.in-Some-Some.is-1 in
     flaw_of_name _ (parts_of c.args.line.now).0 _ _ (subst (λ t. length t ≤ 4096) text short)
-    (subst (IsTaken c.args.any_text) text c.in-Some-Some.ensures.1) flawed
+    (subst (MayBeAdded c.args.any_text) text c.in-Some-Some.ensures.1) flawed
 
 pub returns-in-Some-None : goal.returns-in-Some-None
 returns-in-Some-None c =
@@ -41,6 +41,6 @@ returns-in-Some-None c =
       ap (λ (e : List ℕ × List ℕ). e.0) c.parts.ensures,
       same ∙ text,
       subst (λ t. length t ≤ 4096) (sym same) short,
-      subst (IsTaken c.args.any_text) (sym same) c.in-Some-None.ensures.1,
+      subst (MayBeAdded c.args.any_text) (sym same) c.in-Some-None.ensures.1,
       sym c.in-Some-None.ensures',
     )
