@@ -14,8 +14,8 @@ pub use Rattle.argon2_rows.proofs.TableLemmas.{err_is, quiet_then}
 pub use Rattle.argon2_programs.specs.Locks.{behind_lock, without_lock}
 pub use Rattle.argon2_store.specs.AccountFile.{HasCause, HasFailedBy, IsClosed, Reads}
 pub use Rattle.argon2_passwd.specs.Answers.{AccountFile, AddsEntries, additions, answer_without_text, Appends, AreSaid, behind, Bor, database_of, entries_in, entry_of, entry_or_flaw}
-pub use Rattle.argon2_passwd.specs.Answers.{FileError, Flaw, flaws_from, get, Ghosts, has_name, HasNames, has_text, IsHonest, IsLooked, IsOfFirst, IsOpened, IsOpenFor}
-pub use Rattle.argon2_passwd.specs.Answers.{Keeps, LineValue, line_has_name, Looks, NameTaken, new_line, new_lines, next_salt, file_failure, OfPassword, option_map, password_of, phc_of, scheme_of}
+pub use Rattle.argon2_passwd.specs.Answers.{FileError, Flaw, flaws_from, get, Ghosts, has_name, HasNames, has_text, IsHonest, IsLooked, ReportsFirst, IsOpened, IsOpenFor}
+pub use Rattle.argon2_passwd.specs.Answers.{Keeps, LineValue, line_has_name, Looks, NameTaken, new_line, new_lines, next_salt, file_failure, ReadsPassword, option_map, password_of, phc_of, scheme_of}
 pub use Rattle.argon2_passwd.specs.Answers.{AdmitsStored, SaysValue, Serves, Stays, Texts, value_after}
 pub use Rattle.argon2_passwd.specs.Lines.{IsEntryOrFlaw, MayBeAdded, parts_now, unmarked}
 pub use Rattle.argon2_passwd.specs.Passwords.{IsNotNew, IsUnread, line_of}
@@ -44,7 +44,7 @@ pub of_two : {P : List ℕ → List ℕ → Type 0} (output input rest : Option 
     → second ≡ q
     → DropsThrough input rest 10 → IfSome input (λ bytes. password_of bytes ≡ Some p)
     → IfSome rest (λ bytes. password_of bytes ≡ Some q)
-    → P first second → Keeps output output × OfPassword (λ a. OfPassword (P a) (behind input)) input
+    → P first second → Keeps output output × ReadsPassword (λ a. ReadsPassword (P a) (behind input)) input
 of_two output input rest same other drops found next it =
     (keeps_same output, (_, found_as input same found, (_, behind_as input rest other drops next, it)))
 

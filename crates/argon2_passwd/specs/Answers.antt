@@ -33,7 +33,7 @@ pub use Rattle.argon2_passwd.specs.Passwords.{IsNotNew, IsUnread, password_of}
 pub use Rattle.argon2_passwd.specs.Salts.{IsSalt, next_salt}
 pub use Rattle.argon2_passwd.specs.Failures.{Denial, denial_line, Failure, FileError, IsDenialOf, IsOfWrite, LineError, Params, is_denial, is_refusal, denial_failure, file_failure, lines_failure, status_by, status_of}
 use Rattle.argon2_passwd.specs.Failures.{File, Line as AtLine, Name, Passed}
-pub use Rattle.argon2_passwd.specs.Lines.{AreSaid, Bor, Flaw, IsOfFirst, LineValue, Phc, IsPhcText, entries_in, entry_or_flaw, flaws_from, has_name, has_text, line_has_name, new_line, new_lines, scheme_of}
+pub use Rattle.argon2_passwd.specs.Lines.{AreSaid, Bor, Flaw, ReportsFirst, LineValue, Phc, IsPhcText, entries_in, entry_or_flaw, flaws_from, has_name, has_text, line_has_name, new_line, new_lines, scheme_of}
 use Rattle.argon2_passwd.specs.Lines.{Taken, name_flaw}
 use Rattle.argon2_passwd.specs.declared.outside.News.{News}
 pub use Rattle.argon2_passwd.specs.News.{news_of, news_text}
@@ -46,14 +46,14 @@ Known = Option (List ℕ)
 abbrev pub Outcome : Type 0
 Outcome = Result (Unit {0}) Failure
 
--- a fact of a password, the first line of a known input
-abbrev pub OfPassword : (List ℕ → Type 0) → Known → Type 0
-OfPassword P input =
+-- the first line of an input, if this is known, is a password with this fact
+abbrev pub ReadsPassword : (List ℕ → Type 0) → Known → Type 0
+ReadsPassword P input =
     (password : List ℕ) × IfSome input (λ bytes. password_of bytes ≡ Some password) × P password
 
 -- a fresh text of the password, which is not empty, with a salt that the system gives
 abbrev pub IsNewText : (List ℕ → Type 0) → PolicyValue → Known → Phc → Type 0
-IsNewText Gives policy input v = OfPassword (λ password. (password ≢ []) × (drawn : List ℕ)
+IsNewText Gives policy input v = ReadsPassword (λ password. (password ≢ []) × (drawn : List ℕ)
     × IsSalt Gives drawn × IsFresh policy.target password drawn v) input
 
 -- what a login did with a text, and a line with the fresh one if there is one
@@ -81,9 +81,9 @@ IsSecret Holds (Some path) secret = IsSomeAnd secret (Holds path.now)
 abbrev pub behind : Known → Known
 behind input = option_map (drop_through 10) input
 
--- a fact of what the lines of a known input say
-abbrev pub OfLines : Bool → Known → (List LineValue → Type 0) → Type 0
-OfLines any_text input P = (said : List LineValue) × IfSome input (λ bytes. AreSaid any_text bytes said) × P said
+-- the lines of an input, if this is known, say values with this fact
+abbrev pub ReadsLines : Bool → Known → (List LineValue → Type 0) → Type 0
+ReadsLines any_text input P = (said : List LineValue) × IfSome input (λ bytes. AreSaid any_text bytes said) × P said
 
 module _ {S : Type 0} {g : Ghosts S} where
   -- why the entries are not added: a refusal has the line of the first one whose name is taken
@@ -167,28 +167,28 @@ Ends Made untouched result = Made result ⊎ (untouched × IsErrAnd result (λ f
 abbrev pub IsUnfit : PolicyValue → Action → Known → Failure → Type 0
 IsUnfit policy Hash input failure = IsNotNew input failure
 IsUnfit policy (Check text) input failure = IsUnread input failure
-    ⊎ OfPassword (λ password. IsDenied (Denies policy password) (Some text.now) failure) input
+    ⊎ ReadsPassword (λ password. IsDenied (Denies policy password) (Some text.now) failure) input
 IsUnfit policy (OnFile path (Verify name)) input failure = IsUnread input failure
 IsUnfit policy (OnFile path (Edits Register name)) input failure =
     IsSomeAnd (name_flaw name.now) (λ why. failure ≡ Name why) ⊎ ((name_flaw name.now ≡ None) × IsNotNew input failure)
 IsUnfit policy (OnFile path (Edits Change name)) input failure =
-    IsUnread input failure ⊎ OfPassword (λ first. IsNotNew (behind input) failure) input
+    IsUnread input failure ⊎ ReadsPassword (λ first. IsNotNew (behind input) failure) input
 IsUnfit policy (OnFile path (Edits Set name)) input failure = IsNotNew input failure
 IsUnfit policy (OnFile path (Import any_text)) input failure =
-    OfLines any_text input (λ said. IsOfFirst (flaws_from 1 said) failure)
+    ReadsLines any_text input (λ said. ReportsFirst (flaws_from 1 said) failure)
 IsUnfit policy _ input failure = ⊥
 
--- a fact of the line that a command writes which opens no file
-abbrev pub OfLine : (List ℕ → Type 0) → PolicyValue → Action → Known → (List ℕ → Type 0) → Type 0
-OfLine Gives policy Hash input P = (v : Phc) × IsNewText Gives policy input v × P (phc_text v ++ 10 ∷ [])
-OfLine Gives policy (Check text) input P = OfPassword (λ password.
+-- a command that opens no file has a line to write, with this fact
+abbrev pub HasReply : (List ℕ → Type 0) → PolicyValue → Action → Known → (List ℕ → Type 0) → Type 0
+HasReply Gives policy Hash input P = (v : Phc) × IsNewText Gives policy input v × P (phc_text v ++ 10 ∷ [])
+HasReply Gives policy (Check text) input P = ReadsPassword (λ password.
     (drawn : List ℕ) × (v : Phc) × (did : Accepted) × (w : Phc) × IsSalt Gives drawn × SaysValue (Some text.now) v
     × LogsIn policy password drawn v did w × P (login_text did w ++ 10 ∷ [])) input
-OfLine Gives policy _ input P = ⊥
+HasReply Gives policy _ input P = ⊥
 
 -- How a command ended that opened no file: its answer was said, or nothing, since it is refused before or fails.
 abbrev pub IsAnswered : (List ℕ → Type 0) → PolicyValue → Action → Outcome → Known → Known → Known → Type 0
-IsAnswered Gives policy what result input old new = OfLine Gives policy what input (λ line. Says line result old new)
+IsAnswered Gives policy what result input old new = HasReply Gives policy what input (λ line. Says line result old new)
     ⊎ (Keeps old new × IsErrAnd result (λ failure. (status_of failure ≡ 3) ⊎ IsUnfit policy what input failure))
 
 module _ {S : Type 0} (g : Ghosts S) (Has : List ℕ → Texts → Type 0) where
@@ -244,7 +244,7 @@ module _ {S : Type 0} (g : Ghosts S) (Has : List ℕ → Texts → Type 0) (Give
   abbrev pub IsChange : PolicyValue → List ℕ → EditTask → List ℕ → Known → (List S → Type 0) → Outcome → Type 0
   IsChange policy path Register name input Closed result = (name_flaw name ≡ None)
       × (v : Phc) × IsNewText Gives policy input v × IsApplied g Has path (adding name (phc_text v)) Closed result
-  IsChange policy path Change name input Closed result = OfPassword (λ first. OfPassword (λ second. (second ≢ []) × (
+  IsChange policy path Change name input Closed result = ReadsPassword (λ first. ReadsPassword (λ second. (second ≢ []) × (
       IsErrAnd result (IsUnfound g Has (RefusesChange policy first second) path name Closed)
       ⊎ ((old drawn : List ℕ) × (w : Phc) × IsSalt Gives drawn × AdmitsStored policy first (Some old)
       × IsFresh policy.target second drawn w × IsLooked g Has path name (Ok (Some old))
@@ -260,7 +260,7 @@ module _ {S : Type 0} (g : Ghosts S) (Has : List ℕ → Texts → Type 0) (Give
   abbrev pub IsUsed : PolicyValue → Action → Outcome → Known → Known → Known → (List S → Type 0) → Type 0
   IsUsed policy (OnFile path (Verify name)) result input old new Closed =
       (login : Result Accepted Failure) × SaysLogin login result old new
-      × OfPassword (λ password. IsLogin policy path.now name.now password login Closed) input
+      × ReadsPassword (λ password. IsLogin policy path.now name.now password login Closed) input
   IsUsed policy (OnFile path (Edits act name)) result input old new Closed =
       Keeps old new × IsChange policy path.now act name.now input Closed result
   IsUsed policy (OnFile path (Show view)) result input old new Closed =
@@ -269,10 +269,10 @@ module _ {S : Type 0} (g : Ghosts S) (Has : List ℕ → Texts → Type 0) (Give
       → Stays (error_of (read_by done)) names before after
       × (IsHonest g (database_of after) → WritesLines view names old new done)) Closed
   IsUsed policy (OnFile path (Import any_text)) result input old new Closed =
-      Keeps old new × OfLines any_text input (λ said.
+      Keeps old new × ReadsLines any_text input (λ said.
       (flaws_from 1 said ≡ []) × IsDone g Has path.now (AddsLines result (entries_in said)) Closed)
   IsUsed policy (OnFile path (ImportOthers any_text)) result input old new Closed =
-      Keeps old new × OfLines any_text input (λ said.
+      Keeps old new × ReadsLines any_text input (λ said.
       IsDone g Has path.now (AddsOthers result said) Closed)
   IsUsed policy (OnFile path CheckFile) result input old new Closed =
       Keeps old new × (result ≡ Ok tt) × IsDone g Has path.now (λ before after. after ≡ before) Closed

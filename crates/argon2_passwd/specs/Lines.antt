@@ -141,6 +141,6 @@ flaws_from k (Ok e ∷ ls) = flaws_from (suc k) ls
 flaws_from k (Err why ∷ ls) = (k, why) ∷ flaws_from (suc k) ls
 
 -- the failure has the number of the first of these lines, and its flaw
-abbrev pub IsOfFirst : List (ℕ × Flaw) → Failure → Type 0
-IsOfFirst [] failure = ⊥
-IsOfFirst ((number, why) ∷ more) failure = failure ≡ AtLine number why
+abbrev pub ReportsFirst : List (ℕ × Flaw) → Failure → Type 0
+ReportsFirst [] failure = ⊥
+ReportsFirst ((number, why) ∷ more) failure = failure ≡ AtLine number why

@@ -1,10 +1,10 @@
-use Rattle.argon2_passwd.proofs.Common.{[], arith, Bor, entry_or_flaw, Flaw, inl, inr, IsOfFirst, keeps_same, List, map, None, opened_for, Option, option_copied, refl, said_of, slice_get, Some, sym}
+use Rattle.argon2_passwd.proofs.Common.{[], arith, Bor, entry_or_flaw, Flaw, inl, inr, ReportsFirst, keeps_same, List, map, None, opened_for, Option, option_copied, refl, said_of, slice_get, Some, sym}
 use Rattle.argon2_passwd.proofs.Common.{ℕ, ◌∙◌, ◌∷◌, ◌≡◌}
 use Rattle.argon2_passwd.specs.declared.failure.Failure.TheVariants.{Line}
 use Rattle.argon2_passwd.proofs.run.accounts.import.Goals as goal
 
 of_first : (flaws : List (ℕ × Flaw)) (r : Option (Bor (ℕ × Flaw))) (first : Bor (ℕ × Flaw)) → option_copied r ≡ slice_get flaws 0
-    → r ≡ Some first → IsOfFirst flaws (Line first.now.0 first.now.1)
+    → r ≡ Some first → ReportsFirst flaws (Line first.now.0 first.now.1)
 of_first flaws r first is some = grind arith
 
 no_first : (flaws : List (ℕ × Flaw)) (r : Option (Bor (ℕ × Flaw))) → option_copied r ≡ slice_get flaws 0 → r ≡ None → flaws ≡ []
