@@ -14,7 +14,7 @@ pub use Rattle.argon2_rows.proofs.TableLemmas.{err_is, quiet_then}
 pub use Rattle.argon2_programs.specs.Locks.{behind_lock, without_lock}
 pub use Rattle.argon2_store.specs.AccountFile.{HasCause, HasFailedBy, IsClosed, Reads}
 pub use Rattle.argon2_passwd.specs.Answers.{AccountFile, AddsEntries, additions, answer_without_text, Appends, AreSaid, behind, Bor, database_of, entries_in, entry_of, entry_or_flaw}
-pub use Rattle.argon2_passwd.specs.Answers.{FileError, Flaw, flaws_from, get, Ghosts, has_name, HasNames, has_text, IsHonest, IsLooked, ReportsFirst, IsOpened, IsOpenFor}
+pub use Rattle.argon2_passwd.specs.Answers.{FileError, Flaw, flaws_from, get, Ghosts, has_name, HasNames, has_text, IsHonest, ReadsText, ReportsFirst, IsOpened, IsOpenFor}
 pub use Rattle.argon2_passwd.specs.Answers.{Keeps, LineValue, line_has_name, Looks, NameTaken, new_line, new_lines, next_salt, file_failure, ReadsPassword, option_map, password_of, phc_of, scheme_of}
 pub use Rattle.argon2_passwd.specs.Answers.{AdmitsStored, SaysValue, Serves, Stays, Texts, value_after}
 pub use Rattle.argon2_passwd.specs.Lines.{IsEntryOrFlaw, MayBeAdded, parts_now, unmarked}
@@ -80,5 +80,5 @@ module _ {S : Type 0} {g : Ghosts S} {Has : List ℕ → Texts → Type 0} where
 
   -- a text that was read, by its bytes
   pub looked_as : {path : List ℕ} (name : List ℕ) {Next : S → Type 0} {o p : Option (List ℕ)} → o ≡ p
-      → IsLooked g Has path name (Ok o) Next → IsLooked g Has path name (Ok p) Next
-  looked_as {path} name {Next} same looked = subst (λ x. IsLooked g Has path name (Ok x) Next) same looked
+      → ReadsText g Has path name (Ok o) Next → ReadsText g Has path name (Ok p) Next
+  looked_as {path} name {Next} same looked = subst (λ x. ReadsText g Has path name (Ok x) Next) same looked

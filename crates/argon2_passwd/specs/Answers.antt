@@ -150,18 +150,18 @@ abbrev pub outcome_by : {E : Type 0} → (E → Failure) → Result (Unit {0}) E
 outcome_by failure done = result_map_both (λ x. x) failure done
 
 -- a line was written, or a front of it if a write fails
-abbrev pub Says : List ℕ → Outcome → Known → Known → Type 0
-Says line (Ok _) old new = Appends old new line
-Says line (Err failure) old new = IsOfWrite failure × AppendsFront old new line
+abbrev pub WritesLine : List ℕ → Outcome → Known → Known → Type 0
+WritesLine line (Ok _) old new = Appends old new line
+WritesLine line (Err failure) old new = IsOfWrite failure × AppendsFront old new line
 
 -- what a login did was said, or nothing if it is refused
-abbrev pub SaysLogin : Result Accepted Failure → Outcome → Known → Known → Type 0
-SaysLogin (Ok did) result old new = Says (accepted_text did ++ 10 ∷ []) result old new
-SaysLogin (Err why) result old new = (result ≡ Err why) × Keeps old new
+abbrev pub WritesLogin : Result Accepted Failure → Outcome → Known → Known → Type 0
+WritesLogin (Ok did) result old new = WritesLine (accepted_text did ++ 10 ∷ []) result old new
+WritesLogin (Err why) result old new = (result ≡ Err why) × Keeps old new
 
 -- a call of which its result tells, or a file that was not opened, which is no refusal
-abbrev pub Ends : {X : Type 0} → (Result X Failure → Type 0) → Type 0 → Result X Failure → Type 0
-Ends Made untouched result = Made result ⊎ (untouched × IsErrAnd result (λ failure. status_of failure ≡ 3))
+abbrev pub EndsOrFailsToOpen : {X : Type 0} → (Result X Failure → Type 0) → Type 0 → Result X Failure → Type 0
+EndsOrFailsToOpen Made untouched result = Made result ⊎ (untouched × IsErrAnd result (λ failure. status_of failure ≡ 3))
 
 -- the words or the input are refused with this failure before a file is opened
 abbrev pub IsUnfit : PolicyValue → Action → Known → Failure → Type 0
@@ -187,8 +187,8 @@ HasReply Gives policy (Check text) input P = ReadsPassword (λ password.
 HasReply Gives policy _ input P = ⊥
 
 -- How a command ended that opened no file: its answer was said, or nothing, since it is refused before or fails.
-abbrev pub IsAnswered : (List ℕ → Type 0) → PolicyValue → Action → Outcome → Known → Known → Known → Type 0
-IsAnswered Gives policy what result input old new = HasReply Gives policy what input (λ line. Says line result old new)
+abbrev pub UsesNoFile : (List ℕ → Type 0) → PolicyValue → Action → Outcome → Known → Known → Known → Type 0
+UsesNoFile Gives policy what result input old new = HasReply Gives policy what input (λ line. WritesLine line result old new)
     ⊎ (Keeps old new × IsErrAnd result (λ failure. (status_of failure ≡ 3) ⊎ IsUnfit policy what input failure))
 
 module _ {S : Type 0} (g : Ghosts S) (Has : List ℕ → Texts → Type 0) where
@@ -201,30 +201,30 @@ module _ {S : Type 0} (g : Ghosts S) (Has : List ℕ → Texts → Type 0) where
     pub next : Next (database_of after)
 
   -- all that was done with the file at a path: it was opened, used so, and closed
-  abbrev pub IsDone : List ℕ → (AccountFile S g → AccountFile S g → Type 0) → (List S → Type 0) → Type 0
-  IsDone path Does Closed = IsOpenFor path Does (λ last. Closed (last ∷ []))
+  abbrev pub OpensOnce : List ℕ → (AccountFile S g → AccountFile S g → Type 0) → (List S → Type 0) → Type 0
+  OpensOnce path Does Closed = IsOpenFor path Does (λ last. Closed (last ∷ []))
 
   -- all that was done there is one call, and this result tells of its answer
-  abbrev pub IsApplied : List ℕ → NamedEdit → (List S → Type 0) → Outcome → Type 0
-  IsApplied path change Closed result =
+  abbrev pub EditsOnce : List ℕ → NamedEdit → (List S → Type 0) → Outcome → Type 0
+  EditsOnce path change Closed result =
       (done : Result (Unit {0}) FileError) × (result ≡ outcome_by file_failure done)
-      × IsDone path (Serves (change ∷ []) done) Closed
+      × OpensOnce path (Serves (change ∷ []) done) Closed
 
   -- the text of a name was read in the file at a path, which was closed with this store
-  abbrev pub IsLooked : List ℕ → List ℕ → Result (Option (List ℕ)) FileError → (S → Type 0) → Type 0
-  IsLooked path name found = IsOpenFor path (λ before after. (names : Texts) → HasNames before names
+  abbrev pub ReadsText : List ℕ → List ℕ → Result (Option (List ℕ)) FileError → (S → Type 0) → Type 0
+  ReadsText path name found = IsOpenFor path (λ before after. (names : Texts) → HasNames before names
       → Stays (error_of found) names before after
       × IfOk found (λ text. IsHonest g (database_of after) → get names name ≡ text))
 
   -- the text of a name can't be read
   abbrev pub FailsToRead : List ℕ → List ℕ → (List S → Type 0) → Failure → Type 0
   FailsToRead path name Closed failure =
-      (e : FileError) × (failure ≡ file_failure e) × IsLooked path name (Err e) (λ read. Closed (read ∷ []))
+      (e : FileError) × (failure ≡ file_failure e) × ReadsText path name (Err e) (λ read. Closed (read ∷ []))
 
   -- a call on a name is refused: its text can't be read, or what the name has refuses the call
-  abbrev pub IsUnfound : (Option (List ℕ) → Denial → Type 0) → List ℕ → List ℕ → (List S → Type 0) → Failure → Type 0
-  IsUnfound Why path name Closed failure =
-      ((o : Option (List ℕ)) × IsDenied Why o failure × IsLooked path name (Ok o) (λ read. Closed (read ∷ [])))
+  abbrev pub FailsOnName : (Option (List ℕ) → Denial → Type 0) → List ℕ → List ℕ → (List S → Type 0) → Failure → Type 0
+  FailsOnName Why path name Closed failure =
+      ((o : Option (List ℕ)) × IsDenied Why o failure × ReadsText path name (Ok o) (λ read. Closed (read ∷ [])))
       ⊎ FailsToRead path name Closed failure
 
 module _ {S : Type 0} (g : Ghosts S) (Has : List ℕ → Texts → Type 0) (Gives : List ℕ → Type 0) where
@@ -232,72 +232,72 @@ module _ {S : Type 0} (g : Ghosts S) (Has : List ℕ → Texts → Type 0) (Give
   -- password, none is replaced, or a call to replace it ended so.
   abbrev pub IsLogin : PolicyValue → List ℕ → List ℕ → List ℕ → Result Accepted Failure → (List S → Type 0) → Type 0
   IsLogin policy path name password result Closed =
-      IsErrAnd result (IsUnfound g Has (Denies policy password) path name Closed)
+      IsErrAnd result (FailsOnName g Has (Denies policy password) path name Closed)
       ⊎ ((old drawn : List ℕ) × (v w : Phc) × (did : Accepted) × IsSalt Gives drawn × SaysValue (Some old) v
-      × LogsIn policy password drawn v did w × IsLooked g Has path name (Ok (Some old))
+      × LogsIn policy password drawn v did w × ReadsText g Has path name (Ok (Some old))
       (λ read. ((result ≡ Ok (answer_without_text did)) × Closed (read ∷ []))
       ⊎ ((done : Outcome) × (result ≡ login_by did done)
-      × IsApplied g Has path (replacing name old (phc_text w)) (λ more. Closed (read ∷ more)) done)))
+      × EditsOnce g Has path (replacing name old (phc_text w)) (λ more. Closed (read ∷ more)) done)))
 
   -- A change of this kind was all that was done with the file at a path, by the passwords of the input and with this
   -- result. That the file can't be opened again is no refusal.
   abbrev pub IsChange : PolicyValue → List ℕ → EditTask → List ℕ → Known → (List S → Type 0) → Outcome → Type 0
   IsChange policy path Register name input Closed result = (name_flaw name ≡ None)
-      × (v : Phc) × IsNewText Gives policy input v × IsApplied g Has path (adding name (phc_text v)) Closed result
+      × (v : Phc) × IsNewText Gives policy input v × EditsOnce g Has path (adding name (phc_text v)) Closed result
   IsChange policy path Change name input Closed result = ReadsPassword (λ first. ReadsPassword (λ second. (second ≢ []) × (
-      IsErrAnd result (IsUnfound g Has (RefusesChange policy first second) path name Closed)
+      IsErrAnd result (FailsOnName g Has (RefusesChange policy first second) path name Closed)
       ⊎ ((old drawn : List ℕ) × (w : Phc) × IsSalt Gives drawn × AdmitsStored policy first (Some old)
-      × IsFresh policy.target second drawn w × IsLooked g Has path name (Ok (Some old))
-      (λ read. Ends (IsApplied g Has path (replacing name old (phc_text w)) (λ more. Closed (read ∷ more)))
+      × IsFresh policy.target second drawn w × ReadsText g Has path name (Ok (Some old))
+      (λ read. EndsOrFailsToOpen (EditsOnce g Has path (replacing name old (phc_text w)) (λ more. Closed (read ∷ more)))
       (Closed (read ∷ [])) result)))) (behind input)) input
   IsChange policy path Set name input Closed result =
-      (v : Phc) × IsNewText Gives policy input v × IsApplied g Has path (setting name (phc_text v)) Closed result
-  IsChange policy path Remove name input Closed result = IsApplied g Has path (removing name) Closed result
-  IsChange policy path Lock name input Closed result = IsApplied g Has path (locking name) Closed result
-  IsChange policy path Unlock name input Closed result = IsApplied g Has path (unlocking name) Closed result
+      (v : Phc) × IsNewText Gives policy input v × EditsOnce g Has path (setting name (phc_text v)) Closed result
+  IsChange policy path Remove name input Closed result = EditsOnce g Has path (removing name) Closed result
+  IsChange policy path Lock name input Closed result = EditsOnce g Has path (locking name) Closed result
+  IsChange policy path Unlock name input Closed result = EditsOnce g Has path (unlocking name) Closed result
 
   -- all that was done with the file that is named, and how it ended
-  abbrev pub IsUsed : PolicyValue → Action → Outcome → Known → Known → Known → (List S → Type 0) → Type 0
-  IsUsed policy (OnFile path (Verify name)) result input old new Closed =
-      (login : Result Accepted Failure) × SaysLogin login result old new
+  abbrev pub UsesFile : PolicyValue → Action → Outcome → Known → Known → Known → (List S → Type 0) → Type 0
+  UsesFile policy (OnFile path (Verify name)) result input old new Closed =
+      (login : Result Accepted Failure) × WritesLogin login result old new
       × ReadsPassword (λ password. IsLogin policy path.now name.now password login Closed) input
-  IsUsed policy (OnFile path (Edits act name)) result input old new Closed =
+  UsesFile policy (OnFile path (Edits act name)) result input old new Closed =
       Keeps old new × IsChange policy path.now act name.now input Closed result
-  IsUsed policy (OnFile path (Show view)) result input old new Closed =
+  UsesFile policy (OnFile path (Show view)) result input old new Closed =
       (done : Result (Unit {0}) LineError) × (result ≡ outcome_by lines_failure done)
-      × IsDone g Has path.now (λ before after. (names : Texts) → HasNames before names
+      × OpensOnce g Has path.now (λ before after. (names : Texts) → HasNames before names
       → Stays (error_of (read_by done)) names before after
       × (IsHonest g (database_of after) → WritesLines view names old new done)) Closed
-  IsUsed policy (OnFile path (Import any_text)) result input old new Closed =
+  UsesFile policy (OnFile path (Import any_text)) result input old new Closed =
       Keeps old new × ReadsLines any_text input (λ said.
-      (flaws_from 1 said ≡ []) × IsDone g Has path.now (AddsLines result (entries_in said)) Closed)
-  IsUsed policy (OnFile path (ImportOthers any_text)) result input old new Closed =
+      (flaws_from 1 said ≡ []) × OpensOnce g Has path.now (AddsLines result (entries_in said)) Closed)
+  UsesFile policy (OnFile path (ImportOthers any_text)) result input old new Closed =
       Keeps old new × ReadsLines any_text input (λ said.
-      IsDone g Has path.now (AddsOthers result said) Closed)
-  IsUsed policy (OnFile path CheckFile) result input old new Closed =
-      Keeps old new × (result ≡ Ok tt) × IsDone g Has path.now (λ before after. after ≡ before) Closed
-  IsUsed policy _ result input old new Closed = ⊥
+      OpensOnce g Has path.now (AddsOthers result said) Closed)
+  UsesFile policy (OnFile path CheckFile) result input old new Closed =
+      Keeps old new × (result ≡ Ok tt) × OpensOnce g Has path.now (λ before after. after ≡ before) Closed
+  UsesFile policy _ result input old new Closed = ⊥
 
-  -- how a command ended: its file was used, or no file was opened
-  abbrev pub IsServed : PolicyValue → Action → Outcome → Known → Known → Known → (List S → Type 0) → Type 0
-  IsServed policy what result input old new Closed = IsUsed policy what result input old new Closed
-      ⊎ (Closed [] × IsAnswered Gives policy what result input old new)
+  -- how an action ended: its file was used, or no file was opened
+  abbrev pub EndsAction : PolicyValue → Action → Outcome → Known → Known → Known → (List S → Type 0) → Type 0
+  EndsAction policy what result input old new Closed = UsesFile policy what result input old new Closed
+      ⊎ (Closed [] × UsesNoFile Gives policy what result input old new)
 
   -- How a command ended under the options and their secrets, if these make a policy. A failure that is no refusal may
   -- come before.
-  abbrev pub IsEnded : (List ℕ → List ℕ → Type 0) → Options → Action → Outcome → Known → Known → Known
+  abbrev pub EndsCommand : (List ℕ → List ℕ → Type 0) → Options → Action → Outcome → Known → Known → Known
       → (List S → Type 0) → Type 0
-  IsEnded Holds options what result input old new Closed =
+  EndsCommand Holds options what result input old new Closed =
       (Closed [] × IsErrAnd result (λ failure. status_of failure ≡ 3) × Keeps old new)
       ⊎ ((secret prior : Option (List ℕ)) × IsSecret Holds options.secret_file secret
       × IsSecret Holds options.old_secret_file prior
       × ((Closed [] × ¬ (IsPolicy (policy_by options secret prior)) × IsErrAnd result (λ failure. failure ≡ Params)
       × Keeps old new)
-      ⊎ IsServed (policy_by options secret prior) what result input old new Closed))
+      ⊎ EndsAction (policy_by options secret prior) what result input old new Closed))
 
 -- What standard error gets: a front of the news of the file. A refusal that does not tell whether the name is there adds a
 -- front of one line, the same for each of them.
-abbrev pub IsTold : Options → Action → News → Outcome → Known → Known → Type 0
-IsTold options what news (Ok _) old new = (n : ℕ) × Appends old new (take n (news_of what news))
-IsTold options what news (Err failure) old new = options.explain ≡ false → IsDenialOf what failure
+abbrev pub WritesErrors : Options → Action → News → Outcome → Known → Known → Type 0
+WritesErrors options what news (Ok _) old new = (n : ℕ) × Appends old new (take n (news_of what news))
+WritesErrors options what news (Err failure) old new = options.explain ≡ false → IsDenialOf what failure
     → (mid : Known) × (n : ℕ) × Appends old mid (take n (news_of what news)) × AppendsFront mid new denial_line

@@ -2,7 +2,7 @@
 #![tactic(auto, using(crate::proofs::Common::keeps_same))]
 
 ghost use Rattle.std.specs.Prelude.{◌≡◌, ◌≤◌, ◌⊎◌, ◌++◌, ◌∷◌, [], ℕ, vec_items, IfErr, IfOk, IsTrue, false, string_bytes, take};
-ghost use Rattle.argon2_passwd.specs.Answers.{Appends, AppendsFront, IsAnswered, IsDenialOf, IsEnded, IsNewText, IsPolicy, IsSalt, IsSecret, IsTold, IsNotNew, Outcome, Params, Says, denial_line, news_of, news_text, next_salt, option_map, phc_of, policy_by, policy_value, status_by, status_of};
+ghost use Rattle.argon2_passwd.specs.Answers.{Appends, AppendsFront, UsesNoFile, IsDenialOf, EndsCommand, IsNewText, IsPolicy, IsSalt, IsSecret, WritesErrors, IsNotNew, Outcome, Params, WritesLine, denial_line, news_of, news_text, next_salt, option_map, phc_of, policy_by, policy_value, status_by, status_of};
 
 use crate::command::{Action, Command, EditTask, Task};
 use crate::failure::{Failure, Flaw};
@@ -46,10 +46,10 @@ pub fn run<P: Outside, R: BufRead, W: Write, E: Write>(
     requires { P.closed outside.old [] }
     ensures status { result ≤ 4 }
     ensures ended { (ended : Outcome) × (result ≡ status_by ended)
-        × IsEnded P.File.Store P.keeps P.gives P.holds command.entry.options
+        × EndsCommand P.File.Store P.keeps P.gives P.holds command.entry.options
         command.entry.action ended (R.remaining input.old) (W.contents output.old)
         (W.contents output.new) (P.closed outside.new)
-        × IsTold command.entry.options command.entry.action (P.news outside.new) ended
+        × WritesErrors command.entry.options command.entry.action (P.news outside.new) ended
         (E.contents errors.old) (E.contents errors.new) }
 {
     let answered = answer(alloc, &command, outside, input, output);
@@ -160,7 +160,7 @@ fn answer<P: Outside, R: BufRead, W: Write>(
     output: &mut W,
 ) -> Result<(), Failure>
     requires { P.closed outside.old [] }
-    ensures { IsEnded P.File.Store P.keeps P.gives P.holds command.now.options
+    ensures { EndsCommand P.File.Store P.keeps P.gives P.holds command.now.options
         command.now.action result (R.remaining input.old) (W.contents output.old)
         (W.contents output.new) (P.closed outside.new) }
 {
@@ -179,7 +179,7 @@ fn hash<P: Outside, R: BufRead, W: Write>(
     input: &mut R,
     output: &mut W,
 ) -> Result<(), Failure>
-    ensures { IsAnswered P.gives (policy_value policy.now) Action.Hash result
+    ensures { UsesNoFile P.gives (policy_value policy.now) Action.Hash result
         (R.remaining input.old) (W.contents output.old) (W.contents output.new) }
 {
     let hash = new_text(alloc, outside, policy, input)?;
@@ -211,7 +211,7 @@ fn check<P: Outside, R: BufRead, W: Write>(
     input: &mut R,
     output: &mut W,
 ) -> Result<(), Failure>
-    ensures { IsAnswered P.gives (policy_value policy.now) (Action.Check text.entry) result
+    ensures { UsesNoFile P.gives (policy_value policy.now) (Action.Check text.entry) result
         (R.remaining input.old) (W.contents output.old) (W.contents output.new) }
 {
     let mut rng = generator(outside)?;
@@ -277,7 +277,7 @@ fn generator<P: Outside>(outside: &P) -> Result<ChaCha20Rng, Failure>
 
 // Writes a line.
 fn say<W: Write>(output: &mut W, line: &str) -> Result<(), Failure>
-    ensures { Says (line.now ++ 10 ∷ []) result (W.contents output.old) (W.contents output.new) }
+    ensures { WritesLine (line.now ++ 10 ∷ []) result (W.contents output.old) (W.contents output.new) }
 {
     write_line(output, &[line.as_bytes()])?;
     Ok(())

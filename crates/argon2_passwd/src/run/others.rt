@@ -1,7 +1,7 @@
 //! An import that passes over lines.
 
 ghost use Rattle.std.specs.Prelude.{◌≡◌, ◌||◌, [], ℕ, List, None, Err, Ok, Option, if◌then◌else◌, IfErr, IfOk, OnOk, map};
-ghost use Rattle.argon2_passwd.specs.Answers.{AddsOthers, Damaged, FailsToLook, HasNames, IsHonest, IsServed, Looks, Serves, Texts, additions, database_of, entry_of, entry_or_flaw, has_name, has_text, is_refusal, line_has_name, new_line, new_lines, file_failure, policy_value, status_of};
+ghost use Rattle.argon2_passwd.specs.Answers.{AddsOthers, Damaged, FailsToLook, HasNames, IsHonest, EndsAction, Looks, Serves, Texts, additions, database_of, entry_of, entry_or_flaw, has_name, has_text, is_refusal, line_has_name, new_line, new_lines, file_failure, policy_value, status_of};
 
 use super::accounts::{Access, open};
 use crate::command::{Action, Task};
@@ -25,7 +25,7 @@ pub(super) fn import_others<P: Outside, R: BufRead>(
     input: &mut R,
 ) -> Result<(), Failure>
     requires { P.closed outside.old [] }
-    ensures { (output : Option (List ℕ)) → IsServed P.File.Store P.keeps P.gives
+    ensures { (output : Option (List ℕ)) → EndsAction P.File.Store P.keeps P.gives
         (policy_value access.now.policy.now) (Action.OnFile access.now.path (Task.ImportOthers any_text))
         result (R.remaining input.old) output output (P.closed outside.new) }
 {

@@ -1,4 +1,4 @@
-use Rattle.argon2_passwd.proofs.Common.{[], AccountFile, database_of, Err, err_is, FileError, get, Ghosts, HasNames, IfOk, inl, IsHonest, IsLooked, IsOpened, List, Ok, opened_for}
+use Rattle.argon2_passwd.proofs.Common.{[], AccountFile, database_of, Err, err_is, FileError, get, Ghosts, HasNames, IfOk, inl, IsHonest, ReadsText, IsOpened, List, Ok, opened_for}
 use Rattle.argon2_passwd.proofs.Common.{Option, option_map, Reads, refl, Result, String, string_bytes, Texts, ℕ, ◌≡◌}
 use Rattle.argon2_passwd.proofs.run.accounts.stored_text.Goals as goal
 
@@ -7,11 +7,11 @@ module _ {S Y : Type 0} {g : Ghosts S} {Has : List ℕ → Texts → Type 0} {pa
     (reads : Reads found before after) (shows : (names : Texts) → HasNames after names → IfOk found (λ text.
     IsHonest g (database_of after) → get names name ≡ option_map string_bytes text)) (next : Next (database_of after)) where
   looked : (text : Option (String Y)) → found ≡ Ok text
-      → IsLooked g Has path name (Ok (option_map string_bytes text)) Next
+      → ReadsText g Has path name (Ok (option_map string_bytes text)) Next
   looked text is =
       opened_for before after opened (λ names has. (rw is at reads names has, rw is at shows names (reads names has).has)) next
 
-  unread : (e : FileError) → found ≡ Err e → IsLooked g Has path name (Err e) Next
+  unread : (e : FileError) → found ≡ Err e → ReadsText g Has path name (Err e) Next
   unread e is = opened_for before after opened (λ names has. (rw is at reads names has, tt)) next
 
 pub returns-in_err-text : goal.returns-in_err-text
