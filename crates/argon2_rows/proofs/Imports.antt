@@ -22,4 +22,4 @@ pub use Rattle.argon2_rows.specs.Names.{AddsAll, AddsEach, Texts, changed, entry
 pub use Rattle.argon2_rows.specs.Rows.{AreLines, AreTexts, AreLinesOf, AreWritten, IsLineOf, HasNoneAfter, IsAccount, IsAfterAll, IsFoundAs, breaks_line, row_of, rows_of, shown_char, Keeps}
 pub use Rattle.argon2_rows.specs.Rows.{Appends, Text, Written, Breaks, Failed}
 pub use Rattle.argon2_rows.specs.Table.{Changes, EndsRead, Finishes, HasBegun, HasRows, HasSome, IsHonest, IsKept, IsLong, IsOpen, CrashLeaves, Sees, StaysQuiet, AddsNames, Writes}
-pub use Rattle.argon2_rows.specs.Table.{WritesAll, done_of, written_of, IsDue, IsTold, StoreError, Io, Index, Ghosts, MoreFaults}
+pub use Rattle.argon2_rows.specs.Table.{WritesAll, done_of, written_of, IsDue, TellsFault, StoreError, Io, Index, Ghosts, MoreFaults}

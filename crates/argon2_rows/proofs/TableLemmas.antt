@@ -1,7 +1,7 @@
 -- What the rows of a table are after each step of a change.
 use Rattle.argon2_rows.proofs.Imports.{◌≡◌, Result, Ok, Err, false, refl, IsTrue, arith, inl, inr, IfErr, IsErrAnd, MatchResult, OnOk, plain, StoreError, Index, Ghosts, Trees, View}
 use Rattle.argon2_rows.proofs.Imports.{KeepsSchema, Texts, AreTexts, Changes, EndsRead, Finishes, HasBegun, HasRows, HasSome, IsHonest, IsKept, IsOpen, CrashLeaves, Sees, StaysQuiet}
-use Rattle.argon2_rows.proofs.Imports.{Writes, done_of, IsDue, IsTold, HasCause, MoreFaults}
+use Rattle.argon2_rows.proofs.Imports.{Writes, done_of, IsDue, TellsFault, HasCause, MoreFaults}
 use Rattle.std.specs.Coded.{Coded-set}
 use Rattle.std.proofs.Math.Logic.{∥∥₁_elim, ∥∥₁_map}
 use Rattle.sqlite_trees.specs.contracts.store.Shape.{the_row}
@@ -78,7 +78,7 @@ module _ {S : Type 0} {g : Ghosts S} where
   -- what finishing answers has the cause of what failed in writing, or in the commit
   cause_of : {a b c : S} {x y : Texts} {P : Type 0} (done result : Result (Unit {0}) StoreError) → Writes g a b x y P done
       → Finishes g b c done result → IsHonest g c
-      → IfErr result (λ e. HasCause (g.view a) (MoreFaults (g.faults a) (g.faults c)) P e × IsTold g c e)
+      → IfErr result (λ e. HasCause (g.view a) (MoreFaults (g.faults a) (g.faults c)) P e × TellsFault g c e)
   cause_of (Ok x) result wrote ends clean = grind (arith, cause_map)
   cause_of (Err e) result wrote ends clean =
       let first = wrote.cause (omega (arith, clean, ends.clean)) in

@@ -101,8 +101,8 @@ module _ {S : Type 0} (g : Ghosts S) where
   IsDue old new too_long e = HasCause (g.view old) (HasFailed old new) too_long e × Tells (g.blamed new) e
 
   -- The fault is the one that the store answered last. `Io` may also say that it is closed.
-  abbrev pub IsTold : S → StoreError → Type 0
-  IsTold s e = Tells (g.blamed s) e ⊎ ((e ≡ Io) × ((g.view s).is_open ≡ false))
+  abbrev pub TellsFault : S → StoreError → Type 0
+  TellsFault s e = Tells (g.blamed s) e ⊎ ((e ≡ Io) × ((g.view s).is_open ≡ false))
 
   -- no fault is forgotten, and a crash has no new outcome
   abbrev pub StaysQuiet : S → S → Type 0
@@ -146,7 +146,7 @@ module _ {S : Type 0} (g : Ghosts S) where
     pub crash : IsHonest new → CrashLeaves new (λ left. (left ≡ before) ⊎ (left ≡ after))
     pub durable : OnOk result (IsHonest new → IsOpen new × CrashLeaves new (λ left. left ≡ after))
     pub cause : IsHonest new
-        → IfErr result (λ e. HasCause (g.view old) (HasFailed old new) too_long e × IsTold new e)
+        → IfErr result (λ e. HasCause (g.view old) (HasFailed old new) too_long e × TellsFault new e)
     pub closes : IsHonest new → IsOpen new ⊎ HasFailed old new
 
   -- A change that adds all of several names, or none if it fails.

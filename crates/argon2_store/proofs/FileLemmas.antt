@@ -4,7 +4,7 @@ use Rattle.argon2_store.proofs.Imports.{IsTrue, get, Any, HasFailed, ◌↔◌, 
 use Rattle.argon2_store.proofs.Imports.{quiet_itself, StoreError, Ghosts, Texts, IfOk, IfSome, AddsNames, on_ok_weaker, Answers, error_of, IsClosed, IsErrorAt, Makes, Serves, AddsAll}
 use Rattle.argon2_store.proofs.Imports.{IsFirstTaken, Stays, database_of, read_of, call_error, Changes, IsHonest, IsLong, IsOpen, CrashLeaves, StaysQuiet, changed, AccountFile, FileError}
 use Rattle.argon2_store.proofs.Imports.{Closed, NameTaken, OutOfMemory, AddsShortName, NamedEdit, adding, named_edit, IsTooLong, additions, gives, is_refusal, names_after, name_of, refusal, HasCause}
-use Rattle.argon2_store.proofs.Imports.{HasFailedBy, HasNames, NamesStay, lines_by, read_by, IsTold, both_ways, changed_back, Keeps, Settled, err_is, shape_of, leaves_quiet, on_all}
+use Rattle.argon2_store.proofs.Imports.{HasFailedBy, HasNames, NamesStay, lines_by, read_by, TellsFault, both_ways, changed_back, Keeps, Settled, err_is, shape_of, leaves_quiet, on_all}
 use Rattle.argon2_rows.specs.declared.view.Written.{Written}
 use Rattle.argon2_store.specs.declared.edit.Edit.{Edit}
 use Rattle.sqlite_trees.specs.View.{HasCause as Cause, View}
@@ -75,8 +75,8 @@ module _ {S : Type 0} {g : Ghosts S} (settled : Settled g) (old : AccountFile S 
         let was_open = is_open in
         let due_now = λ (clean : IsTrusted new). let was : IsTrusted old = omega (arith, clean, quiet.clean) in
         let told : IfErr done (λ e. Cause (g.view (database_of old)) (HasFailed g (database_of old) (database_of new)) ⊥ e
-        × IsTold g (database_of new) e) = let due = why clean in grind arith in
-        due (IsClosed old) (IsTold g (database_of new)) (g.view (database_of old)) done (has.1.sound was (is_open was)) (λ f. f)
+        × TellsFault g (database_of new) e) = let due = why clean in grind arith in
+        due (IsClosed old) (TellsFault g (database_of new)) (g.view (database_of old)) done (has.1.sound was (is_open was)) (λ f. f)
         (λ never. never) told in
         grind arith
 
@@ -138,7 +138,7 @@ module _ {S : Type 0} {g : Ghosts S} {old mid : AccountFile S g} {before : Texts
         rw e (ends change (Err (call_error f)) before change.kept (grind arith) (grind arith)
             (λ clean db found. let (names, held, is) = change.crash clean db found in
             let ended = then clean in (names, held, grind arith)) (λ clean. let was = change.honest clean in
-            due {X = Unit {0}} (IsClosed old) (IsTold g (database_of new)) (g.view (database_of mid)) (Err f)
+            due {X = Unit {0}} (IsClosed old) (TellsFault g (database_of new)) (g.view (database_of mid)) (Err f)
             (reads.has.1.sound was (reads.is_open refl was)) (λ failed. omega (arith, failed, reads.quiet.counts)) (too clean)
             (change.cause clean))),
       )

@@ -29,7 +29,7 @@ pub use Rattle.sqlite_wal.specs.Format.{checksum, is_big, part}
 pub use Rattle.sqlite_wal.specs.Recovery.{AreWhole, Image, IsIgnored, Replays, header}
 pub use Rattle.argon2_store.specs.Opening.{AreHeld, AreSound, HoldSoundly, AreUnharmed, IsFoundIn, HoldsNames, IsAfterOpens, IsTableOf, IsUnstarted, LeavesNames, MayHave, StandsFor, HasOtherFormat, HasVersion, IsDamaged, IsOfDamage, IsOfFormat, IsOfPair, ListsOne}
 pub use Rattle.argon2_store.specs.Opening.{IsBlankFile, Row, Table, outcomes, seen_image, AreClean, OnlyReads, PageMap, Wanted, IsSoundFile, header_in, version_in}
-pub use Rattle.argon2_rows.specs.Table.{Changes, HasFailed, HasRows, HoldsTable, IsUnwritten, IsHonest, IsLong, IsOpen, CrashLeaves, StaysQuiet, account, AddsNames, Finishes, Writes, catalog, IsTold}
+pub use Rattle.argon2_rows.specs.Table.{Changes, HasFailed, HasRows, HoldsTable, IsUnwritten, IsHonest, IsLong, IsOpen, CrashLeaves, StaysQuiet, account, AddsNames, Finishes, Writes, catalog, TellsFault}
 pub use Rattle.argon2_rows.specs.Rows.{AreLines, AreTexts, rows_of}
 pub use Rattle.argon2_rows.specs.Table.{doubt, IsKept, StoreError, Index, Ghosts, Trees, catalog_tree, IsClean, plain}
 pub use Rattle.argon2_rows.specs.Names.{AddsAll, IsFirstTaken, Texts, changed, entry_of}

@@ -3,7 +3,7 @@ use Rattle.std.specs.Prelude.{◌≡◌, ◌⊎◌, ℕ, List, false, Any, Optio
 use Rattle.sqlite_trees.specs.declared.error.StoreError.TheVariants as below
 use Rattle.argon2_rows.specs.Names.{IsFirstTaken, Texts}
 use Rattle.argon2_rows.specs.Rows.{AreLines, AreWritten}
-use Rattle.argon2_rows.specs.Table.{HasFailed, HasRows, IsHonest, IsOpen, IsTold, CrashLeaves, StaysQuiet, StoreError, Ghosts}
+use Rattle.argon2_rows.specs.Table.{HasFailed, HasRows, IsHonest, IsOpen, TellsFault, CrashLeaves, StaysQuiet, StoreError, Ghosts}
 use Rattle.argon2_rows.specs.declared.view.View.{View}
 use Rattle.argon2_rows.specs.declared.view.Written.TheVariants as written
 use Rattle.argon2_store.specs.Edits.{NamedEdit, IsTooLong, names_after}
@@ -66,7 +66,7 @@ module _ {S : Type 0} {g : Ghosts S} where
   -- the disk failed or refused from the one to the other, by the fault that the store answered last; `Io` may also say that the
   -- file has to be opened again
   abbrev pub HasFailedBy : AccountFile S g → AccountFile S g → StoreError → Type 0
-  HasFailedBy old new fault = HasFailed g (database_of old) (database_of new) × IsTold g (database_of new) fault
+  HasFailedBy old new fault = HasFailed g (database_of old) (database_of new) × TellsFault g (database_of new) fault
 
   -- A file that was opened and has these names: it is not closed, and a crash leaves its names.
   pub record IsReady (names : Texts) (file : AccountFile S g) : Type 0 where
