@@ -138,7 +138,11 @@ pub fn look_up<S: Store>(
 ///
 /// # Errors
 /// Those of the store.
-pub fn load<S: Store>(store: &mut S, row: &mut Row, last: &mut Row) -> Result<bool, StoreError>
+pub fn are_rows_sound<S: Store>(
+    store: &mut S,
+    row: &mut Row,
+    last: &mut Row,
+) -> Result<bool, StoreError>
     requires { IsHonest S.Store store.old → IsUnwritten (S.Store.view store.old) }
     ensures found { IfOk result (λ all. IsTrue all → (names : Named) × AreLines names
         × HasRows S.Store store.new names × (IsHonest S.Store store.new →

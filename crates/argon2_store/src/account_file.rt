@@ -11,7 +11,7 @@ use crate::error::{FileError, LineError, OpenError, call_error, line_result, rea
 use crate::format::check_headers;
 use crate::opening::{open_files, open_path};
 use argon2_base::phc::PasswordHash;
-use argon2_rows::rows::{load, look_up, write_rows};
+use argon2_rows::rows::{are_rows_sound, look_up, write_rows};
 use argon2_rows::table::{AddError, finish, insert, remove, replace, undo_failed};
 use argon2_rows::{StoredText, View};
 use sqlite_disk::{Disk, Files};
@@ -339,7 +339,7 @@ impl<D: Disk + Drop> AccountFile<FileStore<D>> {
         }
         let mut store = open_files(alloc, files, seed, false)?;
         let (mut row, mut key) = (Row::new(alloc), Row::new(alloc));
-        let error = match load(&mut store, &mut row, &mut key) {
+        let error = match are_rows_sound(&mut store, &mut row, &mut key) {
             Ok(true) => {
                 return Ok(AccountFile {
                     store,

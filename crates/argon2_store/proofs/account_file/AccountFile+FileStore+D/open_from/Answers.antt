@@ -2,7 +2,7 @@ use Rattle.argon2_store.proofs.Imports.{arith, inl, refl, subst, subst₂, sym, 
 use Rattle.argon2_store.proofs.NextOpenLemmas.{near_found}
 use Rattle.argon2_store.proofs.OpenLemmas.{is_honest, of_database, seen_same, unharmed_by_reads, unharmed_then}
 use Rattle.argon2_store.proofs.account_file.AccountFile+FileStore+D.open_from.Goals as goal
-use Rattle.argon2_store.proofs.account_file.AccountFile+FileStore+D.open_from.Goals.{in-Ok-false, in-Err-load}
+use Rattle.argon2_store.proofs.account_file.AccountFile+FileStore+D.open_from.Goals.{in-Ok-false, in-Err-are_rows_sound}
 
 pub invariant_of-result : goal.invariant_of-result
 invariant_of-result g c =
@@ -11,13 +11,13 @@ invariant_of-result g c =
 pub returns-in-Ok-true-clause-ready : goal.returns-in-Ok-true-clause-ready
 returns-in-Ok-true-clause-ready g c =
     let (names, lines, has, rows) = c.in-Ok-true.ensures.found c.in-Ok-true.field-0-test in
-    let opened = λ (clean : IsClean (view c.load.new.store)). c.in_ok-store.ensures.opened (search arith) in (
+    let opened = λ (clean : IsClean (view c.are_rows_sound.new.store)). c.in_ok-store.ensures.opened (search arith) in (
       names,
       record {
         has = has;
         is_open = c.in-Ok-true.ensures.«open»;
-        left = λ clean. leaves_quiet over_file (λ s. settled_at s g.met.D.Disk.seen_may_stay) _ c.load.new.store names has.1
-            (quiet_itself over_file c.load.new.store) clean (c.in-Ok-true.ensures.«open» clean);
+        left = λ clean. leaves_quiet over_file (λ s. settled_at s g.met.D.Disk.seen_may_stay) _ c.are_rows_sound.new.store names has.1
+            (quiet_itself over_file c.are_rows_sound.new.store) clean (c.in-Ok-true.ensures.«open» clean);
       },
       lines,
       λ clean. (has.0, subst₂ (IsFoundIn 4096) (seen_same c.in_default.ensures.reads) (rows clean) (opened clean).2),
@@ -37,14 +37,14 @@ returns-in_err-store-clause-err g c =
 pub returns-clause-err : goal.returns-clause-err
 returns-clause-err g c =
     let now = λ (clean : AreClean g.D.Disk c.close.result.log c.close.result.db).
-    no_doubt _ (is_honest c.load.new.store.pool _ (sym c.close.ensures) clean) in
+    no_doubt _ (is_honest c.are_rows_sound.new.store.pool _ (sym c.close.ensures) clean) in
     let held = λ (clean : AreClean g.D.Disk c.close.result.log c.close.result.db).
-    (c.in_ok-store.ensures.opened (omega (arith, c.load.ensures.quiet.clean, now clean))).1 in
+    (c.in_ok-store.ensures.opened (omega (arith, c.are_rows_sound.ensures.quiet.clean, now clean))).1 in
     let unharmed = unharmed_then _ c.in_default.ensures.reads
-    (unharmed_by_reads (c.check_headers.new.files.log, c.check_headers.new.files.db) c.in_ok-store.store c.load.new.store _
+    (unharmed_by_reads (c.check_headers.new.files.log, c.check_headers.new.files.db) c.in_ok-store.store c.are_rows_sound.new.store _
     g.met.D.Disk.seen_may_stay
-    c.load.ensures.quiet c.in_ok-store.ensures.opened c.close.ensures) in
-    elim c.match-load.branch [
+    c.are_rows_sound.ensures.quiet c.in_ok-store.ensures.opened c.close.ensures) in
+    elim c.match-are_rows_sound.branch [
       | in-Ok-false w ↦ rw w.error-is record {
         kind = inl refl;
         row = λ is clean names lines holds.
@@ -58,7 +58,7 @@ returns-clause-err g c =
         other = λ clean n has. absurd (c.in_default.ensures.known (held clean) n has);
         unharmed = unharmed;
       }
-      | in-Err-load w ↦ rw w.error-is (of_database _ (let of = w.into-error.ensures in grind arith)
+      | in-Err-are_rows_sound w ↦ rw w.error-is (of_database _ (let of = w.into-error.ensures in grind arith)
           (λ clean damaged. absurd (c.in_default.ensures.whole (held clean) damaged))
           (λ clean n has. absurd (c.in_default.ensures.known (held clean) n has))
           unharmed)

@@ -1,6 +1,6 @@
 use Rattle.argon2_rows.proofs.Imports.{IsSome, IsHonest, StaysQuiet}
 use Rattle.argon2_rows.proofs.RowLemmas.{IsReading}
-use Rattle.argon2_rows.proofs.rows.load.Given as goal
+use Rattle.argon2_rows.proofs.rows.are_rows_sound.Given as goal
 
 abbrev pub invariant-loop : goal.invariant-loop
 invariant-loop g l =

@@ -1,6 +1,6 @@
 use Rattle.argon2_rows.proofs.Imports.{arith, ap, ◌∙◌, refl, sym, [], entries, entries_sorted, get-entries, IsHonest, Trees, from_key-none}
 use Rattle.argon2_rows.proofs.RowLemmas.{follow_rows, known}
-use Rattle.argon2_rows.proofs.rows.load.Goals as goal
+use Rattle.argon2_rows.proofs.rows.are_rows_sound.Goals as goal
 
 pub loop-init : goal.loop-init
 loop-init g c = search (arith, from_key-none)
