@@ -24,7 +24,7 @@ use std::mem;
 pub(crate) const ACCOUNTS: u32 = 0;
 
 // The row of a name with its text.
-pub(crate) fn lay(row: &mut Row, name: &str, text: &str) -> Result<(), AllocError>
+pub(crate) fn fill_row(row: &mut Row, name: &str, text: &str) -> Result<(), AllocError>
     ensures { OnOk result (row.new ≡ row_of (name.now, text.now)) }
 {
     row.clear();

@@ -7,7 +7,7 @@ ghost use Rattle.argon2_rows.specs.Names.{AddsEach, Store, Texts, add_error_text
 ghost use Rattle.argon2_rows.specs.Rows.{AreTexts};
 ghost use Rattle.argon2_rows.specs.Table.{EndsRead, Finishes, HasBegun, IsHonest, IsKept, IsLong, Sees, StaysQuiet, Writes, written_of, plain, Index};
 
-use crate::rows::{ACCOUNTS, find, lay};
+use crate::rows::{ACCOUNTS, fill_row, find};
 use crate::text::StoredText;
 use sqlite_trees::error::StoreError;
 use sqlite_trees::store::Store;
@@ -69,7 +69,7 @@ pub fn insert<S: Store>(
     if name.len() > LONGEST || text.len() > LONGEST {
         return Err(StoreError::Unstorable);
     }
-    lay(row, name, text)?;
+    fill_row(row, name, text)?;
     store.insert(ACCOUNTS, row)
 }
 
@@ -90,7 +90,7 @@ pub fn remove<S: Store>(
         (IsHonest S.Store store.old → get names name.now ≡ Some text.now) →
         Writes S.Store store.old store.new names (changed names name.now None) ⊥ result }
 {
-    lay(row, name, text)?;
+    fill_row(row, name, text)?;
     store.remove(ACCOUNTS, row)
 }
 

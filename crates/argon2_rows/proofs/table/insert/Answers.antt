@@ -7,4 +7,4 @@ pub returns-clause-writes : goal.returns-clause-writes
 returns-clause-writes g c names none =
     let rows = λ (clean : _). insert_entry-rows_of names c.args.name.now c.args.text.now (none clean) in
     writes_more (search arith)
-    (is_long ((g.S.Store.view c.args.store.now).reals 0) _ (c.args.name.now, c.args.text.now) c.in_ok-lay.ensures)
+    (is_long ((g.S.Store.view c.args.store.now).reals 0) _ (c.args.name.now, c.args.text.now) c.in_ok-fill_row.ensures)
