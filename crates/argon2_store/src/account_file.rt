@@ -7,7 +7,7 @@ ghost use Rattle.argon2_rows.specs.Table.{HasSome, IsHonest, IsOpen};
 ghost use Rattle.argon2_store.specs.Errors.{is_refusal, read_by};
 
 use crate::edit::{Edit, RowEdit, row_edit};
-use crate::error::{FileError, LineError, OpenError, call_error, line_result, read};
+use crate::error::{FileError, LineError, OpenError, call_error, line_result, read_result};
 use crate::format::check_headers;
 use crate::opening::{open_files, open_path};
 use argon2_base::phc::PasswordHash;
@@ -72,7 +72,7 @@ impl<S: Store> AccountFile<S> {
             }
             RowEdit::Unlock(old, bare) => replace(store, row, name, old, bare),
         };
-        read(finish(&mut self.store, done))
+        read_result(finish(&mut self.store, done))
     }
 
     /// Gives a new name a text. The name has at most 4096 bytes.
@@ -210,7 +210,7 @@ impl<S: Store> AccountFile<S> {
             name,
         );
         undo_failed(&mut self.store, &text);
-        read(text)
+        read_result(text)
     }
 
     /// Writes a line for each name, in the order of the names' bytes, and flushes `output`. No clause says that it is
@@ -234,7 +234,7 @@ impl<S: Store> AccountFile<S> {
         }
         let done = write_rows(&mut self.store, &mut self.row, view, output);
         undo_failed(&mut self.store, &done);
-        line_result(read(done))
+        line_result(read_result(done))
     }
 
     /// The store that holds the names.
@@ -411,7 +411,7 @@ impl<D: Disk> AccountFile<FileStore<D>> {
         if self.is_closed() {
             return Err(FileError::Closed);
         }
-        read(self.store.checkpoint())
+        read_result(self.store.checkpoint())
     }
 }
 

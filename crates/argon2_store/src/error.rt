@@ -106,7 +106,7 @@ pub(crate) fn call_error(error: StoreError) -> FileError
 }
 
 // What a call returns that read or changed an open file.
-pub(crate) fn read<X>(done: Result<X, StoreError>) -> Result<X, FileError>
+pub(crate) fn read_result<X>(done: Result<X, StoreError>) -> Result<X, FileError>
     ensures { result ≡ read_of done }
 {
     done.map_err(call_error)

@@ -14,4 +14,4 @@ returns-clause-call g c names has =
     let done = c.checkpoint.ensures in
     reads_of {g = over_file {g = g.D.Disk}} (λ s db. settled_at s g.met.D.Disk.seen_may_stay db) c.args.self.now
     c.is_closed.ensures c.if-is_closed.false _ c.checkpoint.result names has (search (arith, has_same, done.cause)) _
-    c.read.ensures
+    c.read_result.ensures

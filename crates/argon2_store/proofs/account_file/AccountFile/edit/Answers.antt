@@ -77,7 +77,7 @@ pub returns-clause-call : goal.returns-clause-call
 returns-clause-call g c =
     writes c.in_ok-text.ensures.reads (looked_up g (goal.at.returns-clause-call g c).After-as_deref)
     (c.in_ok-change.ensures c.args.name.now).0
-    (rw name_of-named_edit (written g (goal.at.returns-clause-call g c).After-finish)) c.read.ensures
+    (rw name_of-named_edit (written g (goal.at.returns-clause-call g c).After-finish)) c.read_result.ensures
 
 -- a name that had no text is new
 pub returns-clause-short : goal.returns-clause-short
@@ -92,4 +92,4 @@ returns-clause-short g c =
       | in-Unlock w ↦ let makes = rw w.in-Unlock.is at done.1 in absurd cc
     ] in
     adds_short _ text c.match-change.done c.finish.result done.0 (rw name_of-named_edit short) c.finish.ensures.failed
-    c.read.ensures
+    c.read_result.ensures

@@ -12,4 +12,4 @@ pub returns-clause-reads : goal.returns-clause-reads
 returns-clause-reads g c names has =
     reads_of g.met.S.Store.settled c.args.self.now c.is_closed.ensures c.if-is_closed.false _ _ names has
     (reads_keep g.met.S.Store.settled (search arith) _ g.met.S.Store.broken_if_shut has (c.look_up-text.ensures.reads names)
-    c.undo_failed.ensures) _ c.read.ensures
+    c.undo_failed.ensures) _ c.read_result.ensures

@@ -13,7 +13,7 @@ returns-clause-reads g c names has =
     rw (c.line_result.ensures, read_by-lines)
     (reads_of g.met.S.Store.settled c.args.self.now c.is_closed.ensures c.if-is_closed.false _ _ names has
     (reads_keep g.met.S.Store.settled (search arith) _ g.met.S.Store.broken_if_shut has (c.write_rows-done.ensures.reads names)
-    c.undo_failed.ensures) _ c.read.ensures)
+    c.undo_failed.ensures) _ c.read_result.ensures)
 
 pub returns-clause-shows : goal.returns-clause-shows
 returns-clause-shows g c names has clean =
