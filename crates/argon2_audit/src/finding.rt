@@ -7,7 +7,7 @@ use crate::claim::{Claim, claim_of_text, is_blank, trimmed};
 use crate::field::Field;
 use crate::limits::{Entry, Limits, shown};
 use argon2::password_hash::Error;
-use argon2_programs::{bare, begins_any};
+use argon2_programs::{begins_any, without_prefix};
 
 /// What is found in a line.
 #[derive(Drop)]
@@ -64,7 +64,7 @@ pub fn found(line: &[u8], field: Field) -> Finding
     let Some(text) = field.text(line) else {
         return Finding::Claimed(Claim::NoField);
     };
-    let text = bare(text);
+    let text = without_prefix(text);
     match claim_of_text(text) {
         Claim::Argon2 => found_text(text),
         claim => Finding::Claimed(claim),

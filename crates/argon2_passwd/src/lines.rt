@@ -7,7 +7,7 @@ ghost use Rattle.argon2_rows.specs.Names.{entry_of};
 use crate::entries::{BYTE_ORDER_MARK, LONGEST, name_flaw, parts, stored};
 use crate::failure::Flaw;
 use crate::passwords::line_len;
-use argon2_programs::{after_any, bare_str};
+use argon2_programs::{after_any, str_without_prefix};
 use argon2_rows::StoredText;
 use std::alloc::{AllocError, Global};
 
@@ -38,7 +38,7 @@ fn read_line(line: &[u8], any_text: bool) -> Line<'_>
     ensures { IsEntryOrFlaw any_text line.now (entry_or_flaw result) }
 {
     let (name, text) = parts(line);
-    let text = bare_str(text);
+    let text = str_without_prefix(text);
     if text.len() > LONGEST {
         return Err(Flaw::TextLength);
     }

@@ -13,5 +13,5 @@ pub use arguments::words;
 pub use failure::Failure;
 pub use line::{write_bytes, write_line, write_parts};
 pub use locks::behind_lock;
-pub use prefixes::{after_any, bare, bare_str, begins_any, is_named};
+pub use prefixes::{after_any, begins_any, is_named, str_without_prefix, without_prefix};
 pub use schemes::{Scheme, scheme_of};

@@ -21,7 +21,7 @@ const SCHEMES: [&str; 10] = [
 ];
 
 /// The text without what other programs put before it: Django's word before a `$`, or the first scheme in braces.
-pub fn bare(text: &[u8]) -> &[u8]
+pub fn without_prefix(text: &[u8]) -> &[u8]
     ensures { result.now ≡ without_prefix text.now }
 {
     let rest = after_any(text, &DJANGO);
@@ -33,7 +33,7 @@ pub fn bare(text: &[u8]) -> &[u8]
 }
 
 /// The same of a string.
-pub fn bare_str(text: &str) -> &str
+pub fn str_without_prefix(text: &str) -> &str
     ensures { result.now ≡ without_prefix text.now }
 {
     let rest = str_after_any(text, &DJANGO);

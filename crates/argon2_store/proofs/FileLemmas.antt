@@ -76,8 +76,8 @@ module _ {S : Type 0} {g : Ghosts S} (settled : Settled g) (old : AccountFile S 
         let due_now = λ (clean : IsTrusted new). let was : IsTrusted old = omega (arith, clean, quiet.clean) in
         let told : IfErr done (λ e. Cause (g.view (database_of old)) (HasFailed g (database_of old) (database_of new)) ⊥ e
         × TellsFault g (database_of new) e) = let due = why clean in grind arith in
-        due (IsClosed old) (TellsFault g (database_of new)) (g.view (database_of old)) done (has.1.sound was (is_open was)) (λ f. f)
-        (λ never. never) told in
+        due (IsClosed old) (TellsFault g (database_of new)) (g.view (database_of old)) done (has.1.sound was (is_open was))
+        (λ f. f) (λ never. never) told in
         grind arith
 
     -- the store does nothing

@@ -15,7 +15,7 @@ text_of field line within text bared claim so some no_comment is cut claims =
 pub returns-in-Argon2 : goal.returns-in-Argon2
 returns-in-Argon2 c =
     let known = text_of c.args.field c.args.line.now _ c.in-Some.text.now _ _ c.trimmed-line.ensures (cc) (cc) (search rules)
-    c.bare-text.ensures c.claim_of_text.ensures in
+    c.without_prefix-text.ensures c.claim_of_text.ensures in
     let claim = known.0 ∙ c.in-Argon2.is in
     let text : IsTextFinding (stored_in c.args.field c.args.line.now) c.found_text.result = rw known.1 c.found_text.ensures in
     search rules
@@ -23,5 +23,5 @@ returns-in-Argon2 c =
 pub returns-in_default-claim_of_text : goal.returns-in_default-claim_of_text
 returns-in_default-claim_of_text c =
     let known = text_of c.args.field c.args.line.now _ c.in-Some.text.now _ _ c.trimmed-line.ensures (cc) (cc) (search rules)
-    c.bare-text.ensures c.claim_of_text.ensures in
+    c.without_prefix-text.ensures c.claim_of_text.ensures in
     (c.requires, known.0, c.in_default-claim_of_text.not-Argon2)

@@ -16,8 +16,8 @@ returns-in-Ok-true-clause-ready g c =
       record {
         has = has;
         is_open = c.in-Ok-true.ensures.«open»;
-        left = λ clean. leaves_quiet over_file (λ s. settled_at s g.met.D.Disk.seen_may_stay) _ c.are_rows_sound.new.store names has.1
-            (quiet_itself over_file c.are_rows_sound.new.store) clean (c.in-Ok-true.ensures.«open» clean);
+        left = λ clean. leaves_quiet over_file (λ s. settled_at s g.met.D.Disk.seen_may_stay) _
+            c.are_rows_sound.new.store names has.1 (quiet_itself over_file c.are_rows_sound.new.store) clean (c.in-Ok-true.ensures.«open» clean);
       },
       lines,
       λ clean. (has.0, subst₂ (IsFoundIn 4096) (seen_same c.in_default.ensures.reads) (rows clean) (opened clean).2),
@@ -41,8 +41,8 @@ returns-clause-err g c =
     let held = λ (clean : AreClean g.D.Disk c.close.result.log c.close.result.db).
     (c.in_ok-store.ensures.opened (omega (arith, c.are_rows_sound.ensures.quiet.clean, now clean))).1 in
     let unharmed = unharmed_then _ c.in_default.ensures.reads
-    (unharmed_by_reads (c.check_headers.new.files.log, c.check_headers.new.files.db) c.in_ok-store.store c.are_rows_sound.new.store _
-    g.met.D.Disk.seen_may_stay
+    (unharmed_by_reads (c.check_headers.new.files.log, c.check_headers.new.files.db) c.in_ok-store.store
+    c.are_rows_sound.new.store _ g.met.D.Disk.seen_may_stay
     c.are_rows_sound.ensures.quiet c.in_ok-store.ensures.opened c.close.ensures) in
     elim c.match-are_rows_sound.branch [
       | in-Ok-false w ↦ rw w.error-is record {
