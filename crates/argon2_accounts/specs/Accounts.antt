@@ -51,8 +51,8 @@ module _ {S : Type 0} {g : Ghosts S} where
 
   -- The text of the name is read, and perhaps a fresh text of the password written in the place of the one that was read,
   -- of which the result tells.
-  abbrev pub Replaces : {X : Type 0} → (Result X AccountError → Result (Unit {0}) FileError → Type 0) → TargetValue → List ℕ → List ℕ
-      → List ℕ → Result X AccountError → AccountFile S g → AccountFile S g → Type 0
+  abbrev pub Replaces : {X : Type 0} → (Result X AccountError → Result (Unit {0}) FileError → Type 0) → TargetValue → List ℕ
+      → List ℕ → List ℕ → Result X AccountError → AccountFile S g → AccountFile S g → Type 0
   Replaces Tells target name password drawn result old new = OnlyReads result old new
       ⊎ ((mid : AccountFile S g) × (text : List ℕ) × (fresh : PasswordHash) × (done : Result (Unit {0}) FileError)
       × NamesStay None old mid × IsFresh target password drawn (phc_of fresh)

@@ -2,7 +2,7 @@
 use Rattle.std.proofs.Common.{arith, ◌≡◌, inl, ℕ, ◌+◌, ◌-◌, ◌<◌, ◌≤◌, min, Bool, List, ◌∷◌, length, true, false, ap, refl, Option}
 use Rattle.std.specs.Prelude.{nat_le, if◌then◌else◌}
 use Rattle.std.proofs.lemmas.Bool.{leb-true}
-use Rattle.argon2_calibrate.specs.Choice.{AreTrials, IsCandidate, IsGreatest, IsNext, IsMeasured, below, best, further_of}
+use Rattle.argon2_calibrate.specs.Choice.{AreTrials, IsCandidate, IsGreatest, IsNext, IsMeasured, below, best, pass_time_of}
 use Rattle.argon2_calibrate.specs.declared.choice.Choice.{Choice}
 use Rattle.argon2_calibrate.specs.declared.stopwatch.Times.{Times}
 
@@ -32,7 +32,7 @@ costs_more trial false test costs rises memory took = costs
 pub tried_more : {Takes : ℕ → ℕ → Option Times → Type 0} {target : ℕ} {first now : Choice} {most next count : ℕ}
     (trial : Choice) (more : ℕ) (b : Bool) → nat_le trial.time target ≡ b → IsTried Takes target first now most next count
     → now.t_cost < next → trial.t_cost ≡ next → trial.m_cost ≡ first.m_cost → IsMeasured Takes trial
-    → IsGreatest target first (further_of first next trial.time) more → IsTried Takes target first (if b then trial else now)
+    → IsGreatest target first (pass_time_of first next trial.time) more → IsTried Takes target first (if b then trial else now)
     (if b then most else next - 1) (min more (if b then most else next - 1)) (count + 1)
 tried_more {target = target} {first = first} {most = most} {next = next} trial more b test so rises same memory took greatest =
     let bound : (if b then most else next - 1) ≡ below target (trial ∷ so.trials) =

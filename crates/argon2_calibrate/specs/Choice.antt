@@ -11,21 +11,21 @@ abbrev pub least_passes : Option ℕ → ℕ → ℕ
 least_passes (Some least) m_cost = least
 least_passes None m_cost = if nat_lt m_cost 65536 then 2 else 1
 
--- how long so many passes take, by the time of the least passes and that of a further one
+-- how long so many passes take, by the time of the least passes and that of one more
 abbrev pub time_of : Choice → ℕ → ℕ → ℕ
-time_of first further passes = first.time + (passes - first.t_cost) * further
+time_of first pass_time passes = first.time + (passes - first.t_cost) * pass_time
 
--- how long a further pass takes, by the times of the least passes and of so many: no less than half of the
+-- how long one more pass takes, by the times of the least passes and of so many: no less than half of the
 -- average, as the first hash of all can be slower than the others
-abbrev pub further_of : Choice → ℕ → ℕ → ℕ
-further_of first passes time = max (max ((time - first.time) / (passes - first.t_cost)) (time / (2 * passes))) 1
+abbrev pub pass_time_of : Choice → ℕ → ℕ → ℕ
+pass_time_of first passes time = max (max ((time - first.time) / (passes - first.t_cost)) (time / (2 * passes))) 1
 
 -- so many passes take no longer than the target, unless they are the least; and one more would take longer,
 -- unless there are as many as there can be
-pub record IsGreatest (target : ℕ) (first : Choice) (further passes : ℕ) : Type 0 where
+pub record IsGreatest (target : ℕ) (first : Choice) (pass_time passes : ℕ) : Type 0 where
   pub some : first.t_cost ≤ passes
-  pub within : (time_of first further passes ≤ target) ⊎ (passes ≡ first.t_cost)
-  pub greatest : (target < time_of first further (passes + 1)) ⊎ (passes ≡ 4294967295)
+  pub within : (time_of first pass_time passes ≤ target) ⊎ (passes ≡ first.t_cost)
+  pub greatest : (target < time_of first pass_time (passes + 1)) ⊎ (passes ≡ 4294967295)
 
 -- ---- memory
 
@@ -34,8 +34,8 @@ abbrev pub ArePossible : Options → Type 0
 ArePossible options = AreValid (cost_parameters options.most (unwrap_or options.min_t 1) options.lanes None)
 
 -- the greatest of three times is above the least by more than a quarter
-abbrev pub scatter : ℕ → ℕ → ℕ → Bool
-scatter a b c = nat_lt (min (min a b) c / 4) (max (max a b) c - min (min a b) c)
+abbrev pub are_scattered : ℕ → ℕ → ℕ → Bool
+are_scattered a b c = nat_lt (min (min a b) c / 4) (max (max a b) c - min (min a b) c)
 
 -- the processor worked for less than three quarters of a time
 abbrev pub is_shared : ℕ → ℕ → Bool
@@ -45,7 +45,7 @@ is_shared worked time = nat_lt worked (time - time / 4)
 abbrev pub IsMeasured : (ℕ → ℕ → Option Times → Type 0) → Choice → Type 0
 IsMeasured Takes choice = (times : Times) × (a b c : ℕ) × Takes choice.m_cost choice.t_cost (Some times)
     × (times.taken ≡ a ∷ b ∷ c ∷ []) × (choice.time ≡ min (min a b) c)
-    × (choice.busy ≡ (scatter a b c || is_shared times.worked choice.time))
+    × (choice.busy ≡ (are_scattered a b c || is_shared times.worked choice.time))
 
 -- memory halved so often
 abbrev pub halved : ℕ → ℕ → ℕ
@@ -85,7 +85,7 @@ below target (trial ∷ earlier) = if nat_le trial.time target then below target
 abbrev pub IsNext : ℕ → Choice → List Choice → ℕ → Type 0
 IsNext target first [] passes = passes ≡ min (first.t_cost + 1) 4294967295
 IsNext target first (last ∷ earlier) passes = (greatest : ℕ)
-    × IsGreatest target first (further_of first last.t_cost last.time) greatest
+    × IsGreatest target first (pass_time_of first last.t_cost last.time) greatest
     × (passes ≡ min greatest (below target (last ∷ earlier)))
 
 -- the last trial within the target; the least passes if there is none

@@ -1,7 +1,7 @@
 //! Costs that are chosen by measured times.
 
 ghost use Rattle.std.specs.Prelude.{◌≡◌, ◌≤◌, ◌<◌, IfSome};
-ghost use Rattle.argon2_calibrate.specs.Choice.{IsGreatest, further_of, is_shared, least_passes, scatter};
+ghost use Rattle.argon2_calibrate.specs.Choice.{IsGreatest, pass_time_of, is_shared, least_passes, are_scattered};
 
 /// Memory and passes, and how long three hashes under them take.
 #[derive(Clone, Copy, Debug, PartialEq, Eq)]
@@ -26,8 +26,8 @@ pub struct Found {
 }
 
 /// Whether the greatest of three times is above the least by more than a quarter.
-pub fn scatter(a: u64, b: u64, c: u64) -> bool
-    ensures { result ≡ scatter a b c }
+pub fn are_scattered(a: u64, b: u64, c: u64) -> bool
+    ensures { result ≡ are_scattered a b c }
 {
     let least = a.min(b).min(c);
     a.max(b).max(c) - least > least / 4
@@ -55,9 +55,9 @@ pub fn least_passes(min_t: Option<u32>, m_cost: u32) -> u32
 
 /// An estimate of one more pass from the measured times of the least passes and of `passes`. It is at least half of the
 /// average, since the first hash can be slow.
-pub fn further(first: Choice, passes: u32, time: u64) -> u64
+pub fn pass_time(first: Choice, passes: u32, time: u64) -> u64
     requires { first.t_cost < passes }
-    ensures { result ≡ further_of first passes time }
+    ensures { result ≡ pass_time_of first passes time }
 {
     let more = u64::from(passes - first.t_cost);
     let apart = time.saturating_sub(first.time) / more;
@@ -65,14 +65,14 @@ pub fn further(first: Choice, passes: u32, time: u64) -> u64
 }
 
 /// The greatest number of passes that takes no longer than the target, or the least if none does.
-pub fn passes(target: u64, first: Choice, further: u64) -> u32
-    requires { 0 < further }
-    ensures { IsGreatest target first further result }
+pub fn passes(target: u64, first: Choice, pass_time: u64) -> u32
+    requires { 0 < pass_time }
+    ensures { IsGreatest target first pass_time result }
 {
     if target <= first.time {
         return first.t_cost;
     }
-    let more = (target - first.time) / further;
+    let more = (target - first.time) / pass_time;
     if more < u64::from(u32::MAX - first.t_cost) {
         more as u32 + first.t_cost
     } else {

@@ -3,7 +3,7 @@
 ghost use Rattle.std.specs.Prelude.{◌≡◌, ◌≤◌, IfOk, IsFalse, MatchOption, None};
 ghost use Rattle.argon2_calibrate.specs.Choice.{ArePossible, IsBest, IsChoice, IsFirst, IsMeasured};
 
-use crate::choice::{Choice, Found, further, is_shared, least_passes, passes, scatter};
+use crate::choice::{Choice, Found, are_scattered, is_shared, least_passes, pass_time, passes};
 use crate::options::Options;
 use crate::run::PROGRAM;
 use crate::stopwatch::{Stopwatch, Times};
@@ -97,8 +97,8 @@ fn most_passes<S: Stopwatch, E: Write>(
         } else {
             most = next - 1;
         }
-        let further = further(first, next, trial.time);
-        next = passes(options.target, first, further).min(most);
+        let pass_time = pass_time(first, next, trial.time);
+        next = passes(options.target, first, pass_time).min(most);
     }
     let is_short = best.time < options.target / 2 && best.t_cost < most;
     Ok(Found {
@@ -129,7 +129,7 @@ fn measured<S: Stopwatch, E: Write>(
         m_cost,
         t_cost,
         time,
-        busy: scatter(a, b, c) || is_shared(taken.worked, time),
+        busy: are_scattered(a, b, c) || is_shared(taken.worked, time),
     };
     let (seconds, micros) = (choice.time / 1_000_000, choice.time % 1_000_000);
     let _ = writeln!(
@@ -155,7 +155,7 @@ fn times<S: Stopwatch, E: Write>(
             break;
         };
         let [a, b, c] = taken.taken;
-        if !scatter(a, b, c) {
+        if !are_scattered(a, b, c) {
             break;
         }
         let _ = writeln!(errors, "{PROGRAM}: the machine is busy, measuring again");

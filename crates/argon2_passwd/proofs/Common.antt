@@ -56,8 +56,8 @@ said_of input any_text read said same are =
     IfSome_then input same (λ known all. subst (λ bytes. AreSaid any_text bytes said) all are)
 
 -- why a password is not changed
-pub refuses_change : (policy : PolicyValue) (first second : List ℕ) (stored : Option (List ℕ)) (before after : Stream) (why : Denial)
-    → IsChangeRefusal policy first second stored before after why → RefusesChange policy first second stored why
+pub refuses_change : (policy : PolicyValue) (first second : List ℕ) (stored : Option (List ℕ)) (before after : Stream)
+    (why : Denial) → IsChangeRefusal policy first second stored before after why → RefusesChange policy first second stored why
 refuses_change policy first second stored before after why (inl (denies, same)) = inl denies
 refuses_change policy first second stored before after why (inr (admits, making, drawn)) = inr (admits, making)
 

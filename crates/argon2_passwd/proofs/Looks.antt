@@ -48,8 +48,8 @@ module _ {S : Type 0} {g : Ghosts S} where
   was_honest error a b (inr looks) names has clean = let quiet = (looks names has).quiet in omega (arith, clean, quiet.clean)
 
   -- entries of lines were to be added, after look-ups
-  pub added : {a b c : AccountFile S g} (ls new : List LineValue) (answer : Result (Unit {0}) FileError) {es : List (List ℕ × List ℕ)}
-      {passed : List (ℕ × Flaw)} → Looks None a b → Serves (additions es) answer b c
+  pub added : {a b c : AccountFile S g} (ls new : List LineValue) (answer : Result (Unit {0}) FileError)
+      {es : List (List ℕ × List ℕ)} {passed : List (ℕ × Flaw)} → Looks None a b → Serves (additions es) answer b c
       → (es ≡ entries_in new) × (passed ≡ flaws_from 1 new)
       → ((names : Texts) → HasNames a names → IsHonest g (database_of b) → new ≡ new_lines (has_text names) ls)
       → AddsEntries answer ls passed a c

@@ -8,7 +8,7 @@ pub trials-preserved : goal.trials-preserved
 trials-preserved g c =
     let (so, steady) = c.trials.invariant in
     let (memory, passes, took) = rw c.in-Some.is at c.in_ok-trial.ensures in
-    let greatest = rw c.further-further.ensures at c.passes.ensures in
+    let greatest = rw c.pass_time-pass_time.ensures at c.passes.ensures in
     let rises = c.if-next-best.false in
     elim c.if-trial-options.branch [
       | then-trial-options w ↦ rw (w.best-is, c.min-next.ensures, w.most-is) (

@@ -6,7 +6,8 @@ same_line : (line : LineValue) (p q : List ℕ → Bool) → ((name : List ℕ) 
 same_line line p q same = grind (arith, same)
 
 -- the names of the lines so far are taken, and those of the file
-joined : (line : LineValue) (is_taken old new known : List ℕ → Bool) → ((name : List ℕ) → is_taken name ≡ (old name || known name))
+joined : (line : LineValue) (is_taken old new known : List ℕ → Bool)
+    → ((name : List ℕ) → is_taken name ≡ (old name || known name))
     → ((name : List ℕ) → new name ≡ (line_has_name line name || old name))
     → (name : List ℕ) → (line_has_name line name || is_taken name) ≡ (new name || known name)
 joined line is_taken old new known is more name = grind (arith, is name, more name)

@@ -17,7 +17,8 @@ returns-in-Ok-true-clause-ready g c =
         has = has;
         is_open = c.in-Ok-true.ensures.«open»;
         left = λ clean. leaves_quiet over_file (λ s. settled_at s g.met.D.Disk.seen_may_stay) _
-            c.are_rows_sound.new.store names has.1 (quiet_itself over_file c.are_rows_sound.new.store) clean (c.in-Ok-true.ensures.«open» clean);
+            c.are_rows_sound.new.store names has.1 (quiet_itself over_file c.are_rows_sound.new.store) clean
+            (c.in-Ok-true.ensures.«open» clean);
       },
       lines,
       λ clean. (has.0, subst₂ (IsFoundIn 4096) (seen_same c.in_default.ensures.reads) (rows clean) (opened clean).2),
