@@ -31,7 +31,7 @@ pub fn read_all<R: BufRead>(alloc: Global, input: &mut R) -> Result<Vec<u8>, Fai
 }
 
 /// A text that may be added: one of Argon2 with valid settings; if any is taken, one in the grammar, or of another scheme.
-pub fn stored(text: &str, any_text: bool) -> Option<StoredText<'_>>
+pub fn addable_text(text: &str, any_text: bool) -> Option<StoredText<'_>>
     ensures { MatchOption result (MayNotBeAdded any_text text.now)
         (λ it. (text_in it ≡ text.now) × MayBeAdded any_text text.now) }
 {
@@ -81,7 +81,7 @@ fn has_control(name: &str) -> bool
 }
 
 /// The parts of a line at its first colon. Without a colon there is no text; if it is not UTF-8, there is neither.
-pub fn parts(line: &[u8]) -> (&str, &str)
+pub fn split_line(line: &[u8]) -> (&str, &str)
     ensures { parts_now result ≡ parts_of line.now }
 {
     match str::from_utf8(line) {

@@ -4,7 +4,7 @@ ghost use Rattle.std.specs.Prelude.{◌≡◌, IfOk, map};
 ghost use Rattle.argon2_passwd.specs.Lines.{AreSaid, IsEntryOrFlaw, entries_in, entry_or_flaw, flaws_from};
 ghost use Rattle.argon2_rows.specs.Names.{entry_of};
 
-use crate::entries::{BYTE_ORDER_MARK, LONGEST, name_flaw, parts, stored};
+use crate::entries::{BYTE_ORDER_MARK, LONGEST, addable_text, name_flaw, split_line};
 use crate::failure::Flaw;
 use crate::passwords::line_len;
 use argon2_programs::{after_any, str_without_prefix};
@@ -37,12 +37,12 @@ pub fn read_lines<'a>(
 fn read_line(line: &[u8], any_text: bool) -> Line<'_>
     ensures { IsEntryOrFlaw any_text line.now (entry_or_flaw result) }
 {
-    let (name, text) = parts(line);
+    let (name, text) = split_line(line);
     let text = str_without_prefix(text);
     if text.len() > LONGEST {
         return Err(Flaw::TextLength);
     }
-    match (stored(text, any_text), name_flaw(name)) {
+    match (addable_text(text, any_text), name_flaw(name)) {
         (None, _) => Err(Flaw::NoText),
         (Some(_), Some(flaw)) => Err(flaw),
         (Some(text), None) => Ok((name, text)),

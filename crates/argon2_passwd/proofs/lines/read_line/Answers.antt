@@ -26,8 +26,8 @@ flaw_of_name any_text name text Taken short taken is = (short, taken, is)
 
 pub returns-in-Some-Some : goal.returns-in-Some-Some
 returns-in-Some-Some c =
-    let text = c.str_without_prefix-text.ensures ∙ ap (λ (e : List ℕ × List ℕ). without_prefix e.1) c.parts.ensures in
-    let name = ap (λ (e : List ℕ × List ℕ). e.0) c.parts.ensures in
+    let text = c.str_without_prefix-text.ensures ∙ ap (λ (e : List ℕ × List ℕ). without_prefix e.1) c.split_line.ensures in
+    let name = ap (λ (e : List ℕ × List ℕ). e.0) c.split_line.ensures in
     let short : length c.str_without_prefix-text.result.now ≤ 4096 = grind (arith, c.if-text-gt-LONGEST.false) in
     let flawed = sym (ap name_flaw name) ∙ sym c.name_flaw.ensures ∙ c.in-Some-Some.is-1 in
     flaw_of_name _ (parts_of c.args.line.now).0 _ _ (subst (λ t. length t ≤ 4096) text short)
@@ -35,10 +35,10 @@ returns-in-Some-Some c =
 
 pub returns-in-Some-None : goal.returns-in-Some-None
 returns-in-Some-None c =
-    let text = c.str_without_prefix-text.ensures ∙ ap (λ (e : List ℕ × List ℕ). without_prefix e.1) c.parts.ensures in
+    let text = c.str_without_prefix-text.ensures ∙ ap (λ (e : List ℕ × List ℕ). without_prefix e.1) c.split_line.ensures in
     let short : length c.str_without_prefix-text.result.now ≤ 4096 = grind (arith, c.if-text-gt-LONGEST.false) in
     let same = c.in-Some-None.ensures.0 in (
-      ap (λ (e : List ℕ × List ℕ). e.0) c.parts.ensures,
+      ap (λ (e : List ℕ × List ℕ). e.0) c.split_line.ensures,
       same ∙ text,
       subst (λ t. length t ≤ 4096) (sym same) short,
       subst (MayBeAdded c.args.any_text) (sym same) c.in-Some-None.ensures.1,

@@ -1,7 +1,7 @@
 use Rattle.argon2_passwd.proofs.Common.{[], after_first, ap, arith, before_first, Bor, common_steps, is_utf8, List, lit<, Option, parts_now, refl, rules, true, unwrap_or, ℕ, ◌==◌, ◌∙◌, ◌≡◌}
 use Rattle.std.proofs.lemmas.Str.{is_utf8-from_IsUtf8, IsUtf8-from_is_utf8}
 use Rattle.std.proofs.lemmas.Str.Pattern.{IsSplitOnceResult, split_once_first}
-use Rattle.argon2_passwd.proofs.entries.parts.Goals as goal
+use Rattle.argon2_passwd.proofs.entries.split_line.Goals as goal
 
 -- a text at its first colon
 cut : (line : List ℕ) (r : Option (Bor (List ℕ) × Bor (List ℕ))) (other : Bor (List ℕ) × Bor (List ℕ))
