@@ -60,7 +60,7 @@ pub trait Outside {
     ///
     /// # Errors
     /// There is something else, or nothing.
-    fn look(&self, path: &str, makes: bool) -> Result<(), Failure>
+    fn check_path(&self, path: &str, makes: bool) -> Result<(), Failure>
         ensures { IfErr result (λ failure. status_of failure ≡ 3) };
 
     /// The accounts in the file at a path, which is made if there is none and the command makes it. If it checks the

@@ -62,7 +62,7 @@ impl<'a> Machine<'a> {
             Ok(_) => return Ok(true),
             Err(error) if error.kind() == ErrorKind::NotFound && makes => {
                 if fs::symlink_metadata(self.rt, path).is_err() {
-                    self.look_for_log(path)?;
+                    self.check_log_path(path)?;
                     return Ok(false);
                 }
                 "is a link to a file that is not there"
@@ -77,7 +77,7 @@ impl<'a> Machine<'a> {
 
     // The accounts in the file at a path, whose rows are all read and checked first, or are supposed to be sound.
     #[tactic(auto, using(argon2_store::proofs::NextOpenLemmas::empty_held))]
-    fn opened(&self, path: &str, checks: bool) -> Result<AccountsAt<Wary>, Failure>
+    fn open_accounts(&self, path: &str, checks: bool) -> Result<AccountsAt<Wary>, Failure>
         ensures ready { IfOk result (λ file. (names : Texts) × IsReady names file) }
         ensures failed { IfErr result (λ failure. status_of failure ≡ 3) }
     {
@@ -89,7 +89,7 @@ impl<'a> Machine<'a> {
     }
 
     // Checks that a file at this path can have a log beside it, whose name is longer.
-    fn look_for_log(&self, path: &str) -> Result<(), Failure>
+    fn check_log_path(&self, path: &str) -> Result<(), Failure>
         ensures { IfErr result (λ failure. status_of failure ≡ 3) }
     {
         let log = format!(in self.rt.alloc(); "{path}-wal")?;
@@ -148,7 +148,7 @@ impl Outside for Machine<'_> {
         }
     }
 
-    fn look(&self, path: &str, makes: bool) -> Result<(), Failure> {
+    fn check_path(&self, path: &str, makes: bool) -> Result<(), Failure> {
         self.is_there(path, makes)?;
         Ok(())
     }
@@ -156,7 +156,7 @@ impl Outside for Machine<'_> {
     // Others may change what is at the path while a password is hashed, so each open looks again.
     fn open(&mut self, path: &str, makes: bool, checks: bool) -> Result<AccountsAt<Wary>, Failure> {
         let is_there = self.is_there(path, makes)?;
-        let accounts = self.opened(path, checks)?;
+        let accounts = self.open_accounts(path, checks)?;
         self.news.is_made |= !is_there;
         self.paused = None;
         Ok(accounts)

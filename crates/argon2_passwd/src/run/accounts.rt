@@ -50,7 +50,7 @@ pub(super) fn serve<P: Outside, R: BufRead, W: Write>(
         Action::Check(text) => check(alloc, outside, policy, text, input, output),
         Action::OnFile(path, task) => {
             let makes = task.makes();
-            outside.look(path, makes)?;
+            outside.check_path(path, makes)?;
             let access = &Access {
                 path,
                 makes,
