@@ -1,6 +1,7 @@
 //! What the program is asked for.
 
 use crate::options::Options;
+use crate::outside::{IfAbsent, RowCheck};
 use argon2_store::View;
 
 /// What the program is asked for, and under what.
@@ -41,17 +42,21 @@ pub enum Task<'a> {
 }
 
 impl Task<'_> {
-    // Whether the file is made if there is none.
-    pub(crate) fn makes(&self) -> bool {
-        matches!(
-            self,
-            Task::Edit(EditTask::Register, _) | Task::Import(_) | Task::ImportOthers(_)
-        )
+    // What is done if there is no file.
+    pub(crate) fn if_absent(&self) -> IfAbsent {
+        match self {
+            Task::Edit(EditTask::Register, _) | Task::Import(_) | Task::ImportOthers(_) =>
+                IfAbsent::Make,
+            _ => IfAbsent::Fail,
+        }
     }
 
-    // Whether each row of the file is checked as it is opened, or those alone that are looked up.
-    pub(crate) fn checks(&self) -> bool {
-        matches!(self, Task::Show(_) | Task::CheckFile)
+    // Which rows of the file are checked.
+    pub(crate) fn rows(&self) -> RowCheck {
+        match self {
+            Task::Show(_) | Task::CheckFile => RowCheck::All,
+            _ => RowCheck::LookedUp,
+        }
     }
 }
 

@@ -13,4 +13,4 @@ pub mod run;
 pub use command::{Action, Command, EditTask, Task};
 pub use failure::{Failure, Flaw};
 pub use options::Options;
-pub use outside::{News, Outside};
+pub use outside::{IfAbsent, News, Outside, RowCheck};

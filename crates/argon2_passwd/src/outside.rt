@@ -13,6 +13,24 @@ pub struct News {
     pub is_behind: bool,
 }
 
+/// What a command does if there is no file.
+#[derive(Clone, Copy)]
+pub enum IfAbsent {
+    /// It makes one.
+    Make,
+    /// It fails.
+    Fail,
+}
+
+/// Which rows of a file are checked.
+#[derive(Clone, Copy)]
+pub enum RowCheck {
+    /// All, when the file is opened.
+    All,
+    /// Those that are looked up.
+    LookedUp,
+}
+
 /// Where the program finds the secret, random bytes and accounts. One file is open at a time.
 pub trait Outside {
     ghost use Rattle.std.specs.Prelude.{◌≡◌, ◌++◌, ◌∷◌, [], ℕ, List, IfErr, IfOk, OnErr, OnOk};
@@ -60,19 +78,19 @@ pub trait Outside {
     ///
     /// # Errors
     /// There is something else, or nothing.
-    fn check_path(&self, path: &str, makes: bool) -> Result<(), Failure>
+    fn check_path(&self, path: &str, if_absent: IfAbsent) -> Result<(), Failure>
         ensures { IfErr result (λ failure. status_of failure ≡ 3) };
 
-    /// The accounts in the file at a path, which is made if there is none and the command makes it. If it checks the
-    /// file, each row is read first. No clause says so.
+    /// The accounts in the file at a path, which is made if there is none and the command makes it. No clause says which
+    /// rows are checked.
     ///
     /// # Errors
     /// The file can't be opened.
     fn open(
         &mut self,
         path: &str,
-        makes: bool,
-        checks: bool,
+        if_absent: IfAbsent,
+        rows: RowCheck,
     ) -> Result<AccountFile<Self::File>, Failure>
         requires { (before : List Self.File) × closed self.old before }
         ensures ready { IfOk result (IsOpened keeps path.now) }

@@ -1,6 +1,6 @@
 //! The machine that the program runs on.
 
-use argon2_passwd::{Failure, News, Outside};
+use argon2_passwd::{Failure, IfAbsent, News, Outside, RowCheck};
 use argon2_store::{AccountFile, AccountsAt, OpenError};
 use sqlite_std_file::{FileFrom, Wary};
 use sqlite_store::FileStore;
@@ -52,7 +52,7 @@ impl<'a> Machine<'a> {
     }
 
     // Whether there is a file for accounts at a path, or none and the command makes it.
-    fn is_there(&self, path: &str, makes: bool) -> Result<bool, Failure>
+    fn is_there(&self, path: &str, if_absent: IfAbsent) -> Result<bool, Failure>
         ensures { IfErr result (λ failure. status_of failure ≡ 3) }
     {
         let why = match fs::metadata(self.rt, path) {
@@ -60,7 +60,8 @@ impl<'a> Machine<'a> {
             Ok(found) if !found.is_file() => "is no regular file",
             Ok(found) if found.nlink() > 1 => "has a second name (a hard link)",
             Ok(_) => return Ok(true),
-            Err(error) if error.kind() == ErrorKind::NotFound && makes => {
+            Err(error)
+                if error.kind() == ErrorKind::NotFound && matches!(if_absent, IfAbsent::Make) => {
                 if fs::symlink_metadata(self.rt, path).is_err() {
                     self.check_log_path(path)?;
                     return Ok(false);
@@ -75,16 +76,15 @@ impl<'a> Machine<'a> {
         Err(Failure::Unfit(why))
     }
 
-    // The accounts in the file at a path, whose rows are all read and checked first, or are supposed to be sound.
+    // The accounts in the file at a path. The rows that are not checked first are supposed to be sound.
     #[tactic(auto, using(argon2_store::proofs::NextOpenLemmas::empty_held))]
-    fn open_accounts(&self, path: &str, checks: bool) -> Result<AccountsAt<Wary>, Failure>
+    fn open_accounts(&self, path: &str, rows: RowCheck) -> Result<AccountsAt<Wary>, Failure>
         ensures ready { IfOk result (λ file. (names : Texts) × IsReady names file) }
         ensures failed { IfErr result (λ failure. status_of failure ≡ 3) }
     {
-        if checks {
-            Ok(AccountFile::open(self.rt, path, Wary)?)
-        } else {
-            Ok(AccountFile::open_sound(self.rt, path, Wary)?)
+        match rows {
+            RowCheck::All => Ok(AccountFile::open(self.rt, path, Wary)?),
+            RowCheck::LookedUp => Ok(AccountFile::open_sound(self.rt, path, Wary)?),
         }
     }
 
@@ -148,15 +148,20 @@ impl Outside for Machine<'_> {
         }
     }
 
-    fn check_path(&self, path: &str, makes: bool) -> Result<(), Failure> {
-        self.is_there(path, makes)?;
+    fn check_path(&self, path: &str, if_absent: IfAbsent) -> Result<(), Failure> {
+        self.is_there(path, if_absent)?;
         Ok(())
     }
 
     // Others may change what is at the path while a password is hashed, so each open looks again.
-    fn open(&mut self, path: &str, makes: bool, checks: bool) -> Result<AccountsAt<Wary>, Failure> {
-        let is_there = self.is_there(path, makes)?;
-        let accounts = self.open_accounts(path, checks)?;
+    fn open(
+        &mut self,
+        path: &str,
+        if_absent: IfAbsent,
+        rows: RowCheck,
+    ) -> Result<AccountsAt<Wary>, Failure> {
+        let is_there = self.is_there(path, if_absent)?;
+        let accounts = self.open_accounts(path, rows)?;
         self.news.is_made |= !is_there;
         self.paused = None;
         Ok(accounts)

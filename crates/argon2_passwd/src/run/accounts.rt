@@ -10,7 +10,7 @@ use crate::command::{Action, Task};
 use crate::entries::read_all;
 use crate::failure::{Failure, Flaw};
 use crate::lines::{entries_and_flaws, read_lines};
-use crate::outside::Outside;
+use crate::outside::{IfAbsent, Outside, RowCheck};
 use crate::passwords::password;
 use argon2::login::{Accepted, LoggedIn};
 use argon2_policy::Policy;
@@ -25,10 +25,8 @@ use std::io::{BufRead, Write};
 #[derive(Clone, Copy)]
 pub(super) struct Access<'a> {
     pub(super) path: &'a str,
-    // Whether the file is made if there is none.
-    pub(super) makes: bool,
-    // Whether each row is checked first.
-    pub(super) checks: bool,
+    pub(super) if_absent: IfAbsent,
+    pub(super) rows: RowCheck,
     pub(super) policy: &'a Policy<'a>,
 }
 
@@ -49,12 +47,12 @@ pub(super) fn serve<P: Outside, R: BufRead, W: Write>(
         Action::Hash => hash(alloc, outside, policy, input, output),
         Action::Check(text) => check(alloc, outside, policy, text, input, output),
         Action::OnFile(path, task) => {
-            let makes = task.makes();
-            outside.check_path(path, makes)?;
+            let if_absent = task.if_absent();
+            outside.check_path(path, if_absent)?;
             let access = &Access {
                 path,
-                makes,
-                checks: task.checks(),
+                if_absent,
+                rows: task.rows(),
                 policy,
             };
             match task {
@@ -160,7 +158,7 @@ pub(super) fn open<P: Outside>(
         P.closed outside.old before → P.closed outside.new before) }
 {
     for _ in 0..u64::MAX {
-        match outside.open(access.path, access.makes, access.checks) {
+        match outside.open(access.path, access.if_absent, access.rows) {
             Err(Failure::Unopened(OpenError::Busy)) => {}
             done => return done,
         }
