@@ -106,7 +106,7 @@ fn on_accounts<S: Disks>(call: &Call<'_, '_>, answer: &Answer, held: &mut Accoun
 // The lines, joined by spaces.
 fn write_lines<S: Store>(answer: &Answer, file: &mut AccountFile<S>) {
     let mut output = Vec::new(answer.alloc);
-    answer.done(file.write_lines(View::Texts, &mut output));
+    answer.done(file.write_lines(View::Export, &mut output));
     for entry in str::from_utf8(&output).unwrap_or("").lines() {
         answer.say(entry);
     }

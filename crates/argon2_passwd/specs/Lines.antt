@@ -60,7 +60,7 @@ mark = 239 ∷ 187 ∷ 191 ∷ []
 -- why a name may not be added
 abbrev pub name_flaw : List ℕ → Option Flaw
 name_flaw name = if (length name == 0) || nat_lt 4096 (length name) then Some NameLength
-    else if breaks_line views.Texts name || has_control name then Some Character
+    else if breaks_line views.Export name || has_control name then Some Character
     else if begins_any (mark ∷ []) name then Some Mark else None
 
 -- the name of a line, and its text without what other programs put before it, if these may be added

@@ -64,7 +64,7 @@ pub fn name_flaw(name: &str) -> Option<Flaw>
 {
     if name.is_empty() || name.len() > LONGEST {
         Some(Flaw::NameLength)
-    } else if View::Texts.breaks_line(name.as_bytes()) || has_control(name) {
+    } else if View::Export.breaks_line(name.as_bytes()) || has_control(name) {
         Some(Flaw::Character)
     } else if begins_any(name.as_bytes(), &[BYTE_ORDER_MARK]) {
         Some(Flaw::Mark)

@@ -230,7 +230,7 @@ fn action<'a>(import: Task<'a>, words: &[&'a str]) -> Option<Action<'a>> {
 fn on_file<'a>(import: Task<'a>, word: &str) -> Option<Task<'a>> {
     match word {
         "list" => Some(Task::Show(View::Names)),
-        "export" => Some(Task::Show(View::Texts)),
+        "export" => Some(Task::Show(View::Export)),
         "import" => Some(import),
         "check-file" => Some(Task::CheckFile),
         _ => None,

@@ -9,9 +9,9 @@ pub use Rattle.sqlite_value.specs.declared.value.Value.TheVariants.{Text}
 pub use Rattle.sqlite_value.specs.Order.{Row}
 pub use Rattle.argon2_programs.specs.Lines.{AppendsFront}
 use Rattle.argon2_rows.specs.StoredTexts.{IsLine}
-use Rattle.argon2_rows.specs.Names.{Texts as Named, slice_cmp, entries, get, nat_cmp}
+use Rattle.argon2_rows.specs.Names.{Texts, slice_cmp, entries, get, nat_cmp}
 use Rattle.argon2_rows.specs.declared.view.View.{View}
-use Rattle.argon2_rows.specs.declared.view.View.TheVariants.{Names, Texts}
+use Rattle.argon2_rows.specs.declared.view.View.TheVariants.{Names, Export}
 pub use Rattle.argon2_rows.specs.declared.view.Written.{Written}
 use Rattle.argon2_rows.specs.declared.view.Written.TheVariants as written
 pub use Rattle.argon2_rows.specs.declared.view.Written.TheVariants.{Breaks, Failed}
@@ -21,29 +21,29 @@ abbrev pub row_of : List ℕ × List ℕ → Row
 row_of e = Text e.0 ∷ Text e.1 ∷ []
 
 -- the rows of names with their texts, in the order of the names' bytes
-abbrev pub rows_of : Named → List Row
+abbrev pub rows_of : Texts → List Row
 rows_of names = map row_of (entries names)
 
 -- each name and each text is UTF-8
-abbrev pub AreTexts : Named → Type 0
+abbrev pub AreTexts : Texts → Type 0
 AreTexts names = (name text : List ℕ) → get names name ≡ Some text → IsUtf8 name × IsUtf8 text
 
 -- no name after this one has a text
-abbrev pub HasNoneAfter : Named → List ℕ → Type 0
+abbrev pub HasNoneAfter : Texts → List ℕ → Type 0
 HasNoneAfter names name = (later : List ℕ) → slice_cmp nat_cmp name later ≡ Less → get names later ≡ None
 
 -- neither this name nor one after it has a text
-abbrev pub IsAfterAll : Named → List ℕ → Type 0
+abbrev pub IsAfterAll : Texts → List ℕ → Type 0
 IsAfterAll names name = (get names name ≡ None) × HasNoneAfter names name
 
 -- the name has a text, and this is its row, or it has none, or comes after all names
-abbrev pub IsFoundAs : Named → List ℕ → Option Bool → Row → Type 0
+abbrev pub IsFoundAs : Texts → List ℕ → Option Bool → Row → Type 0
 IsFoundAs names name (Some true) row = (text : List ℕ) × (get names name ≡ Some text) × (row ≡ row_of (name, text))
 IsFoundAs names name (Some false) row = get names name ≡ None
 IsFoundAs names name None row = IsAfterAll names name
 
 -- each text is one line
-abbrev pub AreLines : Named → Type 0
+abbrev pub AreLines : Texts → Type 0
 AreLines names = (name text : List ℕ) → get names name ≡ Some text → IsLine text
 
 -- the row is that of a name with a text of one line, both UTF-8
@@ -69,12 +69,12 @@ shown name = flat_map shown_char (chars name)
 -- the line of a name with its text
 abbrev pub line : View → List ℕ × List ℕ → List ℕ
 line Names e = shown e.0 ++ 10 ∷ []
-line Texts e = e.0 ++ 58 ∷ e.1 ++ 10 ∷ []
+line Export e = e.0 ++ 58 ∷ e.1 ++ 10 ∷ []
 
 -- the line of the name with its text would read as that of another: the name has a line break or a colon
 abbrev pub breaks_line : View → List ℕ → Bool
 breaks_line Names name = false
-breaks_line Texts name = list_any (λ b. b == 10) name || list_any (λ b. b == 58) name
+breaks_line Export name = list_any (λ b. b == 10) name || list_any (λ b. b == 58) name
 
 -- none of the names breaks its line
 abbrev pub AreFitLines : View → List (List ℕ × List ℕ) → Type 0
@@ -97,5 +97,5 @@ AreLinesOf view es old new (Failed why) = (before after : List (List ℕ × List
     × (es ≡ before ++ after) × AreFitLines view before × AppendsFront old new (flat_map (line view) before)
 
 -- the lines of all names
-abbrev pub AreWritten : View → Named → Option (List ℕ) → Option (List ℕ) → Written → Type 0
+abbrev pub AreWritten : View → Texts → Option (List ℕ) → Option (List ℕ) → Written → Type 0
 AreWritten view names = AreLinesOf view (entries names)

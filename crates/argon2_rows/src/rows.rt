@@ -4,7 +4,7 @@ ghost use Rattle.std.specs.Prelude.{◌≡◌, ◌<◌, ◌↔◌, [], ◌∷◌
 ghost use Rattle.std.specs.Option.{option_map};
 ghost use Rattle.sqlite_trees.specs.View.{IsFailure, KeepsSchema};
 ghost use Rattle.sqlite_trees.specs.declared.error.StoreError.TheVariants.{OutOfMemory};
-ghost use Rattle.argon2_rows.specs.Names.{Texts as Named, get};
+ghost use Rattle.argon2_rows.specs.Names.{Texts, get};
 ghost use Rattle.argon2_rows.specs.Rows.{AreLines, AreTexts, AreWritten, IsAccount, IsFoundAs, IsLineOf, digit, line, row_of, rows_of, shown, shown_char, Appends, AppendsFront, Text};
 ghost use Rattle.argon2_rows.specs.declared.view.Written.TheVariants.{All, Failed};
 ghost use Rattle.argon2_rows.specs.Table.{HasRows, IsDue, IsUnwritten, IsHonest, IsOpen, Sees, StaysQuiet, Writes, done_of, plain, Index};
@@ -68,7 +68,7 @@ pub(crate) fn find<S: Store>(
     name: &str,
 ) -> Result<Option<bool>, StoreError>
     requires { IsHonest S.Store store.old → (S.Store.view store.old).shape 0 ≡ Index plain }
-    ensures found { (names : Named) → IfOk result (λ is. IsHonest S.Store store.new →
+    ensures found { (names : Texts) → IfOk result (λ is. IsHonest S.Store store.new →
         (S.Store.view store.old).trees 0 ≡ rows_of names → IsFoundAs names name.now is row.new) }
     ensures same { OnOk result (IsHonest S.Store store.new → S.Store.view store.new
         ≡ record (S.Store.view store.old) { cursors = (S.Store.view store.new).cursors }) }
@@ -116,14 +116,14 @@ pub fn look_up<S: Store>(
     name: &str,
 ) -> Result<Option<String>, StoreError>
     requires { IsHonest S.Store store.old → (S.Store.view store.old).shape 0 ≡ Index plain }
-    ensures found { (names : Named) → AreTexts names → Sees (S.Store.view store.old) names →
+    ensures found { (names : Texts) → AreTexts names → Sees (S.Store.view store.old) names →
         IfOk result (λ text. IsHonest S.Store store.new →
         get names name.now ≡ option_map string_bytes text) }
     ensures same { OnOk result (IsHonest S.Store store.new → S.Store.view store.new
         ≡ record (S.Store.view store.old) { cursors = (S.Store.view store.new).cursors }) }
     ensures sound { OnOk result (IsHonest S.Store store.new →
         (S.Store.view store.old).is_broken ≡ false) }
-    ensures reads { (names : Named) → AreTexts names →
+    ensures reads { (names : Texts) → AreTexts names →
         (IsHonest S.Store store.old → Sees (S.Store.view store.old) names) →
         Writes S.Store store.old store.new names names ⊥ (done_of result) }
 {
@@ -144,11 +144,11 @@ pub fn are_rows_sound<S: Store>(
     last: &mut Row,
 ) -> Result<bool, StoreError>
     requires { IsHonest S.Store store.old → IsUnwritten (S.Store.view store.old) }
-    ensures found { IfOk result (λ all. IsTrue all → (names : Named) × AreLines names
+    ensures found { IfOk result (λ all. IsTrue all → (names : Texts) × AreLines names
         × HasRows S.Store store.new names × (IsHonest S.Store store.new →
         (S.Store.view store.old).committed 0 ≡ rows_of names)) }
     ensures refused { IfOk result (λ all. all ≡ false → IsHonest S.Store store.new →
-        (names : Named) → AreTexts names → AreLines names →
+        (names : Texts) → AreTexts names → AreLines names →
         ¬ ((S.Store.view store.old).committed 0 ≡ rows_of names)) }
     ensures open { OnOk result (IsHonest S.Store store.new → IsOpen S.Store store.new) }
     ensures cause { IsHonest S.Store store.new →
@@ -201,7 +201,7 @@ fn write_texts<W: Write>(name: &str, text: &[u8], view: View, output: &mut W) ->
     ensures cut { AppendsFront (W.contents output.old) (W.contents output.new)
         (line view (name.now, text.now)) }
 {
-    if let View::Texts = view {
+    if let View::Export = view {
         return write_parts(output, &[name.as_bytes(), b":", text, b"\n"]);
     }
     write_name(name, output)?;
@@ -256,10 +256,10 @@ pub fn write_rows<S: Store, W: Write>(
     output: &mut W,
 ) -> Result<Written, StoreError>
     requires { IsHonest S.Store store.old → (S.Store.view store.old).shape 0 ≡ Index plain }
-    ensures shows { (names : Named) → AreTexts names → Sees (S.Store.view store.old) names →
+    ensures shows { (names : Texts) → AreTexts names → Sees (S.Store.view store.old) names →
         IfOk result (λ done. IsHonest S.Store store.new →
         AreWritten view names (W.contents output.old) (W.contents output.new) done) }
-    ensures reads { (names : Named) → AreTexts names →
+    ensures reads { (names : Texts) → AreTexts names →
         (IsHonest S.Store store.old → Sees (S.Store.view store.old) names) →
         Writes S.Store store.old store.new names names ⊥ (done_of result) }
 {

@@ -12,7 +12,7 @@ pub enum View {
     /// the two digits of its code, as `\x1b`, and `\` twice.
     Names,
     /// The names with their texts: a name, a colon and a text.
-    Texts,
+    Export,
 }
 
 /// How far lines were written.
@@ -33,7 +33,7 @@ impl View {
     {
         match self {
             View::Names => false,
-            View::Texts => name.contains(&b'\n') || name.contains(&b':'),
+            View::Export => name.contains(&b'\n') || name.contains(&b':'),
         }
     }
 }

@@ -2,7 +2,7 @@
 #![tactic(auto, using(crate::proofs::FileLemmas::answers))]
 
 ghost use Rattle.std.specs.Prelude.{◌≡◌, ◌≤◌, ◌↔◌, [], ◌∷◌, false, Err, IsTrue, IfErr, IfOk, OnOk, length, map, string_bytes};
-ghost use Rattle.argon2_rows.specs.Names.{Texts as Named, entry_of, get};
+ghost use Rattle.argon2_rows.specs.Names.{Texts, entry_of, get};
 ghost use Rattle.argon2_rows.specs.Table.{HasSome, IsHonest, IsOpen};
 ghost use Rattle.argon2_store.specs.Errors.{is_refusal, read_by};
 
@@ -160,7 +160,7 @@ impl<S: Store> AccountFile<S> {
     /// - those of reading and writing, as [`add`](AccountFile::add). The index is then the number of entries.
     pub fn add_all(&mut self, new: &[(&str, StoredText<'_>)]) -> Result<(), (usize, FileError)>
         ensures call { Serves (additions (map entry_of new.now)) (unindexed result) self.old self.new }
-        ensures index { (names : Named) → HasNames self.old names →
+        ensures index { (names : Texts) → HasNames self.old names →
             IsHonest S.Store (database_of self.new) →
             IfErr result (IsErrorAt names (map entry_of new.now)) }
     {
@@ -191,7 +191,7 @@ impl<S: Store> AccountFile<S> {
     ///   can't be read. It stays open, unless [`is_closed`](AccountFile::is_closed) says otherwise.
     pub fn text_of(&mut self, name: &str) -> Result<Option<String>, FileError>
         ensures reads { Reads result self.old self.new }
-        ensures shows { (names : Named) → HasNames self.new names → IfOk result (λ text.
+        ensures shows { (names : Texts) → HasNames self.new names → IfOk result (λ text.
             IsHonest S.Store (database_of self.new) → get names name.now ≡ option_map string_bytes text) }
         ensures open { OnOk result (IsHonest S.Store (database_of self.new) →
             IsOpen S.Store (database_of self.new)) }
@@ -223,7 +223,7 @@ impl<S: Store> AccountFile<S> {
     /// - [`LineError::File`]: those of [`text_of`](AccountFile::text_of). No clause says which lines are written.
     pub fn write_lines<W: Write>(&mut self, view: View, output: &mut W) -> Result<(), LineError>
         ensures reads { Reads (read_by result) self.old self.new }
-        ensures shows { (names : Named) → HasNames self.old names →
+        ensures shows { (names : Texts) → HasNames self.old names →
             IsHonest S.Store (database_of self.new) →
             WritesLines view names (W.contents output.old) (W.contents output.new) result }
         ensures closed { IsHonest S.Store (database_of self.old) → IsClosed self.old →

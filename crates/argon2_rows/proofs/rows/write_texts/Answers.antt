@@ -3,9 +3,9 @@ use Rattle.std.proofs.Common.{append_assoc}
 use Rattle.argon2_programs.proofs.Fronts.{front_of_longer, text_and_front}
 use Rattle.argon2_rows.proofs.rows.write_texts.Goals as goal
 
-pub returns-in-Texts-clause-cut : goal.returns-in-Texts-clause-cut
-returns-in-Texts-clause-cut g c =
-    rw (c.in-Texts.is, append_assoc c.args.name.now (58 ∷ c.args.text.now) (10 ∷ []))
+pub returns-in-Export-clause-cut : goal.returns-in-Export-clause-cut
+returns-in-Export-clause-cut g c =
+    rw (c.in-Export.is, append_assoc c.args.name.now (58 ∷ c.args.text.now) (10 ∷ []))
     (rw c.as_bytes.ensures.value at c.write_parts.ensures.cut)
 
 pub returns-in_err-write_name-clause-cut : goal.returns-in_err-write_name-clause-cut
