@@ -130,8 +130,11 @@ pub fn remark_on<S: Remarks>(
         Finding::TooLong => Some(Remark::Text("too-long", "longer than 4096 bytes")),
         Finding::NotUtf8 => Some(Remark::Text("not-utf8", "not UTF-8")),
         Finding::Refused(error) => Some(Remark::Refused(error)),
-        Finding::Claimed(claim) => claimed(*claim, limits),
-        Finding::Shown(entry) => shown(remarks, place, entry, limits)?,
+        Finding::Claimed(claim) => remark_on_claim(*claim, limits),
+        Finding::Shown(entry) => {
+            add_remarks(remarks, place, entry, limits)?;
+            None
+        }
     };
     if let Some(remark) = remark {
         remarks.add(place, remark)?;
@@ -142,8 +145,8 @@ pub fn remark_on<S: Remarks>(
     Ok(())
 }
 
-// What a line claims to store that is no text of Argon2, if it is not allowed.
-fn claimed(claim: Claim, limits: &Limits) -> Option<Remark<'static>> {
+// A remark on what a line claims to store, if it is no text of Argon2 and not allowed.
+fn remark_on_claim(claim: Claim, limits: &Limits) -> Option<Remark<'static>> {
     match claim {
         Claim::Other(_) | Claim::Locked | Claim::Blank | Claim::Comment if limits.allows_other =>
             None,
@@ -158,13 +161,13 @@ fn claimed(claim: Claim, limits: &Limits) -> Option<Remark<'static>> {
     }
 }
 
-// Says what of a text is below the limits, and returns what is left to say.
-fn shown<S: Remarks>(
+// Says what of a text is below the limits.
+fn add_remarks<S: Remarks>(
     remarks: &mut S,
     place: Place<'_>,
     entry: &Entry,
     limits: &Limits,
-) -> Result<Option<Remark<'static>>, Failure> {
+) -> Result<(), Failure> {
     let kind = Kind::of(&entry.settings);
     for (code, name, has, least) in [
         ("m-below", 'm', kind.m_cost, limits.m_cost),
@@ -192,16 +195,14 @@ fn shown<S: Remarks>(
         };
         remarks.add(place, remark)?;
     }
-    Ok(match entry.hash_len {
-        None => Some(Remark::Text("no-hash", "no hash")),
-        Some(has) if has < limits.hash_len => Some(Remark::Length(
-            "hash-below",
-            "hash",
-            has,
-            limits.hash_len,
-        )),
-        Some(_) => None,
-    })
+    match entry.hash_len {
+        None => remarks.add(place, Remark::Text("no-hash", "no hash")),
+        Some(has) if has < limits.hash_len => {
+            let remark = Remark::Length("hash-below", "hash", has, limits.hash_len);
+            remarks.add(place, remark)
+        }
+        Some(_) => Ok(()),
+    }
 }
 
 /// Writes the counts, one a line, and then how many texts of Argon2 there are of each kind. The counts of lines that store
