@@ -5,7 +5,7 @@ ghost use Rattle.argon2_audit.specs.Finding.{IsFinding, IsTextFinding};
 
 use crate::claim::{Claim, claim_of_text, is_blank, trimmed};
 use crate::field::Field;
-use crate::limits::{Entry, Limits, shown};
+use crate::limits::{Entry, Limits, read_entry};
 use argon2::password_hash::Error;
 use argon2_programs::{begins_any, without_prefix};
 
@@ -50,7 +50,7 @@ pub enum Class {
 }
 
 /// What is found in a line that is not too long.
-pub fn found(line: &[u8], field: Field) -> Finding
+pub fn finding_of(line: &[u8], field: Field) -> Finding
     requires { length line.now ≤ 4096 }
     ensures { IsFinding field line.now result }
 {
@@ -66,19 +66,19 @@ pub fn found(line: &[u8], field: Field) -> Finding
     };
     let text = without_prefix(text);
     match claim_of_text(text) {
-        Claim::Argon2 => found_text(text),
+        Claim::Argon2 => finding_of_text(text),
         claim => Finding::Claimed(claim),
     }
 }
 
 // What is found in a text that claims to be Argon2's.
-fn found_text(text: &[u8]) -> Finding
+fn finding_of_text(text: &[u8]) -> Finding
     ensures { IsTextFinding text.now result }
 {
     let Ok(text) = str::from_utf8(text) else {
         return Finding::NotUtf8;
     };
-    match shown(text) {
+    match read_entry(text) {
         Ok(entry) => Finding::Shown(entry),
         Err(error) => Finding::Refused(error),
     }

@@ -87,7 +87,7 @@ impl Entry {
 /// # Errors
 /// `EncodingInvalid` if the text is outside the grammar; then the fault of its parameters, of its
 /// algorithm and of its version, as verifying names them.
-pub fn shown(text: &str) -> Result<Entry>
+pub fn read_entry(text: &str) -> Result<Entry>
     ensures { IsEntryAnswer text.now result }
 {
     let hash = PasswordHash::new(text)?;

@@ -4,7 +4,7 @@ ghost use Rattle.std.specs.Prelude.{◌≡◌, ◌≤◌, IsTrue, vec_len};
 ghost use Rattle.argon2_audit.specs.declared.session.TheConstants.{LONGEST};
 
 use crate::field::Field;
-use crate::finding::{Finding, found};
+use crate::finding::{Finding, finding_of};
 use crate::limits::Options;
 use crate::report::{Place, Remarks, remark_on};
 use crate::seen::Seen;
@@ -49,7 +49,7 @@ impl Line {
         let finding = if self.is_long {
             Finding::TooLong
         } else {
-            found(self.bytes.as_slice(), field)
+            finding_of(self.bytes.as_slice(), field)
         };
         self.bytes.clear();
         self.is_long = false;

@@ -4,7 +4,7 @@ use Rattle.argon2_programs.specs.Prefixes.{without_prefix, begins_any}
 use Rattle.argon2_audit.specs.Finding.{IsTextFinding, claim_of, claim_of_text, field_in, is_space, stored_in, trimmed}
 use Rattle.argon2_audit.specs.declared.claim.Claim.{Claim}
 use Rattle.argon2_audit.specs.declared.field.Field.{Field}
-use Rattle.argon2_audit.proofs.finding.found.Goals as goal
+use Rattle.argon2_audit.proofs.finding.finding_of.Goals as goal
 
 text_of : (field : Field) (line within text bared : List ℕ) (claim : Claim) → within ≡ trimmed line
     → list_all is_space within ≡ false → begins_any (codes "#" ∷ []) within ≡ false → field_in field within ≡ Some text
@@ -17,7 +17,8 @@ returns-in-Argon2 c =
     let known = text_of c.args.field c.args.line.now _ c.in-Some.text.now _ _ c.trimmed-line.ensures (cc) (cc) (search rules)
     c.without_prefix-text.ensures c.claim_of_text.ensures in
     let claim = known.0 ∙ c.in-Argon2.is in
-    let text : IsTextFinding (stored_in c.args.field c.args.line.now) c.found_text.result = rw known.1 c.found_text.ensures in
+    let text : IsTextFinding (stored_in c.args.field c.args.line.now) c.finding_of_text.result =
+    rw known.1 c.finding_of_text.ensures in
     search rules
 
 pub returns-in_default-claim_of_text : goal.returns-in_default-claim_of_text
