@@ -57,19 +57,19 @@ field_end separator line = if begins_any ((34 ∷ []) ∷ []) line then quoted_e
     else position_or_len (λ byte. byte == separator) line
 
 -- a field without the quotes around it
-abbrev pub unquoted : List ℕ → List ℕ
-unquoted field = if begins_any ((34 ∷ []) ∷ []) field then strip_last 34 (after_any ((34 ∷ []) ∷ []) field) else field
+abbrev pub strip_quotes : List ℕ → List ℕ
+strip_quotes field = if begins_any ((34 ∷ []) ∷ []) field then strip_last 34 (after_any ((34 ∷ []) ∷ []) field) else field
 
 -- the field with so many before it
 abbrev pub field_numbered : ℕ → ℕ → List ℕ → Option (List ℕ)
-field_numbered zero separator line = Some (unquoted (take (field_end separator line) line))
+field_numbered zero separator line = Some (strip_quotes (take (field_end separator line) line))
 field_numbered (suc before) separator line = if nat_lt (field_end separator line) (length line)
     then field_numbered before separator (drop (suc (field_end separator line)) line) else None
 
 -- if no number is asked for, the second of the fields, or all if there is no separator
 abbrev pub field_by : Option ℕ → ℕ → List ℕ → Option (List ℕ)
 field_by None separator line =
-    Some (if is_werkzeug line then line else unwrap_or (field_numbered 1 separator line) (unquoted line))
+    Some (if is_werkzeug line then line else unwrap_or (field_numbered 1 separator line) (strip_quotes line))
 field_by (Some before) separator line = field_numbered before separator line
 
 abbrev pub field_in : Field → List ℕ → Option (List ℕ)
@@ -78,8 +78,8 @@ field_in field line = field_by field.before field.separator line
 -- ---- what a line claims to store
 
 -- a line without the byte order mark U+FEFF at its start and a carriage return at its end
-abbrev pub trimmed : List ℕ → List ℕ
-trimmed line = strip_last 13 (after_any ((239 ∷ 187 ∷ 191 ∷ []) ∷ []) line)
+abbrev pub trim_line : List ℕ → List ℕ
+trim_line line = strip_last 13 (after_any ((239 ∷ 187 ∷ 191 ∷ []) ∷ []) line)
 
 abbrev pub is_space : ℕ → Bool
 is_space byte = (byte == 32) || (byte == 9)
@@ -95,13 +95,13 @@ claim_of_text text =
 -- a line of spaces and tabs is blank, one that begins with `#` is a comment, and any other claims what its field does
 abbrev pub claim_of : Field → List ℕ → Claim
 claim_of field line =
-    if list_all is_space (trimmed line) then Blank
-    else if begins_any (codes "#" ∷ []) (trimmed line) then Comment
-    else unwrap_or (option_map (λ text. claim_of_text (without_prefix text)) (field_in field (trimmed line))) NoField
+    if list_all is_space (trim_line line) then Blank
+    else if begins_any (codes "#" ∷ []) (trim_line line) then Comment
+    else unwrap_or (option_map (λ text. claim_of_text (without_prefix text)) (field_in field (trim_line line))) NoField
 
 -- the text of a line, empty if it lacks the field
 abbrev pub stored_in : Field → List ℕ → List ℕ
-stored_in field line = unwrap_or (option_map without_prefix (field_in field (trimmed line))) []
+stored_in field line = unwrap_or (option_map without_prefix (field_in field (trim_line line))) []
 
 -- ---- what a stored text shows
 

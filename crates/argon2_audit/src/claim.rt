@@ -3,7 +3,7 @@
 ghost use Rattle.std.specs.Prelude.{◌≡◌};
 ghost use Rattle.std.specs.List.{list_all};
 ghost use Rattle.std.specs.Io.BufRead.{strip_last};
-ghost use Rattle.argon2_audit.specs.Finding.{claim_of_text, is_space, trimmed};
+ghost use Rattle.argon2_audit.specs.Finding.{claim_of_text, is_space, trim_line};
 
 use argon2_programs::{Scheme, after_any, begins_any, scheme_of};
 
@@ -53,8 +53,8 @@ pub fn is_blank(line: &[u8]) -> bool
 }
 
 /// The line without a byte order mark at its start and a carriage return at its end.
-pub fn trimmed(line: &[u8]) -> &[u8]
-    ensures { result.now ≡ trimmed line.now }
+pub fn trim_line(line: &[u8]) -> &[u8]
+    ensures { result.now ≡ trim_line line.now }
 {
     without_last(after_any(line, &["\u{feff}"]), b'\r')
 }

@@ -3,7 +3,7 @@
 ghost use Rattle.std.specs.Prelude.{◌≡◌, ◌==◌, ◌≤◌, length};
 ghost use Rattle.std.specs.Option.{option_copied};
 ghost use Rattle.std.specs.List.{list_all, position_or_len};
-ghost use Rattle.argon2_audit.specs.Finding.{field_end, field_numbered, has_numbers, is_number, is_werkzeug, quoted_end, unquoted};
+ghost use Rattle.argon2_audit.specs.Finding.{field_end, field_numbered, has_numbers, is_number, is_werkzeug, quoted_end, strip_quotes};
 
 use crate::claim::without_last;
 use argon2_programs::{after_any, begins_any};
@@ -27,7 +27,7 @@ impl Field {
     {
         match self.before {
             None if is_werkzeug(line) => Some(line),
-            None => Some(field_numbered(line, 1, self.separator).unwrap_or(unquoted(line))),
+            None => Some(field_numbered(line, 1, self.separator).unwrap_or(strip_quotes(line))),
             Some(before) => field_numbered(line, before, self.separator),
         }
     }
@@ -68,7 +68,7 @@ fn field_numbered(line: &[u8], before: u32, separator: u8) -> Option<&[u8]>
 {
     let end = field_end(line, separator);
     if before == 0 {
-        return Some(unquoted(&line[..end]));
+        return Some(strip_quotes(&line[..end]));
     }
     if end == line.len() {
         return None;
@@ -105,8 +105,8 @@ fn quoted_end(line: &[u8], separator: u8, is_quoted: bool) -> usize
 }
 
 // A field without the quotes around it.
-fn unquoted(field: &[u8]) -> &[u8]
-    ensures { result.now ≡ unquoted field.now }
+fn strip_quotes(field: &[u8]) -> &[u8]
+    ensures { result.now ≡ strip_quotes field.now }
 {
     if begins_any(field, &["\""]) {
         without_last(after_any(field, &["\""]), b'"')

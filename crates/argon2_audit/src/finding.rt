@@ -3,7 +3,7 @@
 ghost use Rattle.std.specs.Prelude.{◌≤◌, length};
 ghost use Rattle.argon2_audit.specs.Finding.{IsFinding, IsTextFinding};
 
-use crate::claim::{Claim, claim_of_text, is_blank, trimmed};
+use crate::claim::{Claim, claim_of_text, is_blank, trim_line};
 use crate::field::Field;
 use crate::limits::{Entry, Limits, read_entry};
 use argon2::password_hash::Error;
@@ -54,7 +54,7 @@ pub fn finding_of(line: &[u8], field: Field) -> Finding
     requires { length line.now ≤ 4096 }
     ensures { IsFinding field line.now result }
 {
-    let line = trimmed(line);
+    let line = trim_line(line);
     if is_blank(line) {
         return Finding::Claimed(Claim::Blank);
     }
