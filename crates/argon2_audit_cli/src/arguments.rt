@@ -70,21 +70,24 @@ wrong, and 3 if a file, reading, writing or a request for memory fails, which st
 ///
 /// # Errors
 /// The exit status, once a page is written or `errors` says why.
-pub fn parsed<'a, W: Write, E: Write>(
+pub fn parse<'a, W: Write, E: Write>(
     alloc: Global,
     words: &'a [String],
     output: &mut W,
     errors: &mut E,
 ) -> Result<(Options, Vec<&'a str>), u8> {
     let matches = COMMAND_LINE.parse(alloc, words, output, errors)?;
-    match read(alloc, &matches) {
+    match options_and_names(alloc, &matches) {
         Ok(read) => Ok(read),
         Err(refusal) => Err(COMMAND_LINE.refuse(alloc, &refusal, errors)),
     }
 }
 
 // What the words ask for, and the names of files.
-fn read<'a>(alloc: Global, matches: &Matches<'a>) -> Result<(Options, Vec<&'a str>), Refusal> {
+fn options_and_names<'a>(
+    alloc: Global,
+    matches: &Matches<'a>,
+) -> Result<(Options, Vec<&'a str>), Refusal> {
     let [separator] = matches.get("separator").unwrap_or("").as_bytes() else {
         return Err(matches.invalid(alloc, "separator", "it is not one byte"));
     };

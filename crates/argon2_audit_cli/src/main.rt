@@ -20,7 +20,7 @@ fn main(rt: HostRuntime) -> ExitCode {
         Ok(words) => words,
         Err(status) => return ExitCode::from(status),
     };
-    let status = match arguments::parsed(rt.alloc(), words.as_slice(), &mut output, &mut errors) {
+    let status = match arguments::parse(rt.alloc(), words.as_slice(), &mut output, &mut errors) {
         Ok((options, names)) => {
             let mut inputs = Inputs::new(&rt, names.as_slice());
             let (alloc, shows) = (rt.alloc(), errors.is_terminal());

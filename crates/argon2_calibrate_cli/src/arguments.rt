@@ -55,7 +55,7 @@ request for memory fails, which standard error says.";
 ///
 /// # Errors
 /// The exit status, once a page is written or `errors` says why.
-pub fn parsed<W: Write, E: Write>(
+pub fn parse<W: Write, E: Write>(
     alloc: Global,
     words: &[String],
     output: &mut W,

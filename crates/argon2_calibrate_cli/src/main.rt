@@ -16,7 +16,7 @@ fn main(rt: HostRuntime) -> ExitCode {
         Ok(words) => words,
         Err(status) => return ExitCode::from(status),
     };
-    let status = match arguments::parsed(alloc, words.as_slice(), &mut output, &mut errors) {
+    let status = match arguments::parse(alloc, words.as_slice(), &mut output, &mut errors) {
         Ok(options) => {
             let mut machine = Machine::new(alloc, &rt, available(&rt));
             run(alloc, options, &mut machine, &mut output, &mut errors)

@@ -105,7 +105,7 @@ of another scheme or above the bound, or if --skip passed over a line. If it is 
 ///
 /// # Errors
 /// The exit status, once a page is written or `errors` says why.
-pub fn parsed<'a, W: Write, E: Write>(
+pub fn parse<'a, W: Write, E: Write>(
     alloc: Global,
     words: &'a [String],
     output: &mut W,

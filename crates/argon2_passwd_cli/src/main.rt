@@ -26,7 +26,7 @@ fn main(rt: HostRuntime) -> ExitCode {
         Ok(words) => words,
         Err(status) => return ExitCode::from(status),
     };
-    let parsed = arguments::parsed(rt.alloc(), words.as_slice(), &mut output, &mut errors);
+    let parsed = arguments::parse(rt.alloc(), words.as_slice(), &mut output, &mut errors);
     let mut command = match parsed {
         Ok(command) => command,
         Err(status) => return ExitCode::from(status),

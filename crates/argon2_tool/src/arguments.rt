@@ -78,7 +78,7 @@ impl<'a> Command<'a> {
     ghost use Rattle.argon2_tool.specs.Commands.{IsSpelled};
 
     /// The command that the arguments spell, if they spell one.
-    pub fn parsed(args: &'a [String]) -> Option<Command<'a>>
+    pub fn parse(args: &'a [String]) -> Option<Command<'a>>
         ensures { IsSpelled (map string_bytes args.now) result }
     {
         let (name, values) = args.split_first()?;

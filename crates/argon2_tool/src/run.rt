@@ -82,7 +82,7 @@ pub fn run<R: Read, W: Write, E: Write>(
     ensures usage_line { result ≡ 2 → AppendsFront (E.contents errors.old) (E.contents errors.new)
         (USAGE.now ++ 10 ∷ []) }
 {
-    let Some(command) = Command::parsed(args) else {
+    let Some(command) = Command::parse(args) else {
         let _ = write_line(errors, &[USAGE.as_bytes()]);
         return 2;
     };
