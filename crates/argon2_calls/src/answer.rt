@@ -50,7 +50,7 @@ impl Answer {
     }
 
     /// A list, which is empty if memory was refused for it.
-    pub fn granted<T: Drop>(&self, list: Result<Vec<T>, AllocError>) -> Vec<T> {
+    pub fn list_or_empty<T: Drop>(&self, list: Result<Vec<T>, AllocError>) -> Vec<T> {
         if list.is_err() {
             self.refuse();
         }
@@ -59,11 +59,11 @@ impl Answer {
 
     /// As many bytes ff as a length says.
     pub fn ones(&self, len: u32) -> Vec<u8> {
-        self.granted(Vec::from_elem(self.alloc, 0xff, len as usize))
+        self.list_or_empty(Vec::from_elem(self.alloc, 0xff, len as usize))
     }
 
     /// A value.
-    pub fn say<T: Display + Drop>(&self, value: T) {
+    pub fn display<T: Display + Drop>(&self, value: T) {
         let mut text = self.text.replace(String::new(self.alloc));
         if write!(text, " {value}").is_err() {
             self.refuse();
@@ -72,7 +72,7 @@ impl Answer {
     }
 
     /// An error, or another value by its name.
-    pub fn show<T: Debug + Drop>(&self, value: T) {
+    pub fn debug<T: Debug + Drop>(&self, value: T) {
         let mut text = self.text.replace(String::new(self.alloc));
         if write!(text, " {value:?}").is_err() {
             self.refuse();
@@ -81,61 +81,61 @@ impl Answer {
     }
 
     /// A value, or `none`.
-    pub fn say_or_none<T: Display + Drop>(&self, value: Option<T>) {
+    pub fn display_or_none<T: Display + Drop>(&self, value: Option<T>) {
         match value {
-            Some(value) => self.say(value),
-            None => self.say("none"),
+            Some(value) => self.display(value),
+            None => self.display("none"),
         }
     }
 
     /// Bytes as hex digits.
-    pub fn hex(&self, bytes: &[u8]) {
+    pub fn display_hex(&self, bytes: &[u8]) {
         match hex::encode(self.alloc, bytes) {
-            Ok(digits) => self.say(digits.as_str()),
+            Ok(digits) => self.display(digits.as_str()),
             Err(_) => self.refuse(),
         }
     }
 
     /// The value that a call returned, or its error.
-    pub fn said<T: Display + Drop, E: Debug + Drop>(&self, done: Result<T, E>) {
+    pub fn display_result<T: Display + Drop, E: Debug + Drop>(&self, done: Result<T, E>) {
         match done {
-            Ok(value) => self.say(value),
-            Err(e) => self.show(e),
+            Ok(value) => self.display(value),
+            Err(e) => self.debug(e),
         }
     }
 
     /// The value that a call returned, by its name, or its error.
-    pub fn shown<T: Debug + Drop, E: Debug + Drop>(&self, done: Result<T, E>) {
+    pub fn debug_result<T: Debug + Drop, E: Debug + Drop>(&self, done: Result<T, E>) {
         match done {
-            Ok(value) => self.show(value),
-            Err(e) => self.show(e),
+            Ok(value) => self.debug(value),
+            Err(e) => self.debug(e),
         }
     }
 
     /// `Ok`, or the error of a call.
-    pub fn done<E: Debug + Drop>(&self, done: Result<(), E>) {
+    pub fn display_done<E: Debug + Drop>(&self, done: Result<(), E>) {
         match done {
-            Ok(()) => self.say("Ok"),
-            Err(e) => self.show(e),
+            Ok(()) => self.display("Ok"),
+            Err(e) => self.debug(e),
         }
     }
 
     /// The bytes that a call has written, or `Ok` if they are ff as before; or its error, and whether they are.
-    pub fn written<E: Debug + Drop>(&self, done: Result<(), E>, out: &[u8]) {
+    pub fn display_output<E: Debug + Drop>(&self, done: Result<(), E>, out: &[u8]) {
         let is_same = out.iter().all(|byte| *byte == 0xff);
         match done {
-            Ok(()) if is_same => self.say("Ok"),
-            Ok(()) => self.hex(out),
+            Ok(()) if is_same => self.display("Ok"),
+            Ok(()) => self.display_hex(out),
             Err(e) => {
-                self.show(e);
-                self.same(is_same);
+                self.debug(e);
+                self.display_same(is_same);
             }
         }
     }
 
     /// Whether something is the same as before a call.
-    pub fn same(&self, is_same: bool) {
-        self.say(if is_same { "same" } else { "changed" });
+    pub fn display_same(&self, is_same: bool) {
+        self.display(if is_same { "same" } else { "changed" });
     }
 
     /// The value that a call returned. If it returned an error, that is the answer.
@@ -143,15 +143,15 @@ impl Answer {
         match done {
             Ok(value) => Some(value),
             Err(e) => {
-                self.show(e);
+                self.debug(e);
                 None
             }
         }
     }
 
     /// How many bytes a generator has drawn.
-    pub fn drawn(&self, rng: &Drawn) {
-        self.say("drawn");
-        self.say(rng.count());
+    pub fn display_drawn(&self, rng: &Drawn) {
+        self.display("drawn");
+        self.display(rng.count());
     }
 }

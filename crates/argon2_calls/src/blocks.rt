@@ -12,7 +12,7 @@ use argon2::{Block, Work};
 use std::convert::AsSlice;
 use std::slice;
 
-pub(crate) fn is_made(call: &Call<'_, '_>, answer: &Answer) -> bool {
+pub(crate) fn make(call: &Call<'_, '_>, answer: &Answer) -> bool {
     match call.name {
         "Blake2b" => digest(call, answer),
         "blake2b_long" => long_digest(call, answer),
@@ -20,29 +20,29 @@ pub(crate) fn is_made(call: &Call<'_, '_>, answer: &Answer) -> bool {
         "Block::mix" => {
             let mut work = Work::new();
             let mixed = Block::mix(&block(call, 1), &block(call, 2), &mut work);
-            say(answer, &mixed);
-            answer.say("mixes");
-            answer.say(work.mixes());
+            show_block(answer, &mixed);
+            answer.display("mixes");
+            answer.display(work.mixes());
         }
         // `BLOCK BLOCK`: the digests of their exclusive or, made in a copy of the first and in a new block.
         "Block::bitxor" => {
             let (x, y) = (block(call, 1), block(call, 2));
             let mut copy = x.clone().unwrap_or_default();
             copy ^= &y;
-            say(answer, &copy);
-            say(answer, &(x ^ &y));
+            show_block(answer, &copy);
+            show_block(answer, &(x ^ &y));
         }
         // `BLOCK`: the digest of the block then.
         "Block::zeroize" => {
             let mut x = block(call, 1);
             x.zeroize();
-            say(answer, &x);
+            show_block(answer, &x);
         }
         // `BLOCK PLACE`: the word at the place.
         "Block::as_slice" => {
-            answer.say_or_none(block(call, 1).as_slice().get(call.count(2) as usize));
+            answer.display_or_none(block(call, 1).as_slice().get(call.count(2) as usize));
         }
-        "Block::fmt" => answer.show(block(call, 1)),
+        "Block::fmt" => answer.debug(block(call, 1)),
         _ => return false,
     }
     true
@@ -54,7 +54,7 @@ fn long_digest(call: &Call<'_, '_>, answer: &Answer) {
     let mut out = answer.ones(call.count(1));
     let (first, second) = message.split_at(cut.min(message.len()));
     let done = blake2b_long(&[first, b"", second], out.as_mut_slice());
-    answer.written(done, &out);
+    answer.display_output(done, &out);
 }
 
 // `LENGTH MESSAGE PIECE`: the digest of a message whose pieces have so many bytes, but for the last.
@@ -65,7 +65,7 @@ fn digest(call: &Call<'_, '_>, answer: &Answer) {
     }
     let out = &mut buffer[..len];
     write_digest(call.bytes(2), call.count(3) as usize, out);
-    answer.hex(out);
+    answer.display_hex(out);
 }
 
 fn write_digest(message: &[u8], piece: usize, out: &mut [u8])
@@ -114,8 +114,8 @@ fn block(call: &Call<'_, '_>, place: usize) -> Block {
     block
 }
 
-fn say(answer: &Answer, block: &Block) {
-    answer.hex(&digest_of(slice::from_ref(block)));
+fn show_block(answer: &Answer, block: &Block) {
+    answer.display_hex(&digest_of(slice::from_ref(block)));
 }
 
 fn words(block: &Block) -> Words {

@@ -63,7 +63,7 @@ impl<'a> Contexts<'a> {
 
 /// Answers a line `context ..`.
 pub fn define(call: &Call<'_, '_>, answer: &Answer) {
-    answer.done(read(call).and(Ok(())));
+    answer.display_done(read(call).and(Ok(())));
 }
 
 // The context that the values say, or the error of the algorithm, the version or the parameters.

@@ -31,18 +31,18 @@ impl Disks for OnDisk {
     }
 
     fn checkpoint(answer: &Answer, file: &mut AccountFile<OnDisk>) {
-        answer.done(file.checkpoint());
+        answer.display_done(file.checkpoint());
     }
 
     // `NAME GENERATOR PASSWORD`.
     fn sign_up(call: &Call<'_, '_>, answer: &Answer, held: &mut Accounts<'_, OnDisk>) {
         let (name, mut rng, password) = (call.word(1), call.generator(2), call.bytes(3));
-        answer.done(argon2_service::sign_up(held, &mut rng, name, password));
-        answer.drawn(&rng);
+        answer.display_done(argon2_service::sign_up(held, &mut rng, name, password));
+        answer.display_drawn(&rng);
     }
 }
 
-pub(crate) fn is_made<'a, S: Disks>(
+pub(crate) fn make<'a, S: Disks>(
     rt: &HostRuntime,
     call: &Call<'_, 'a>,
     answer: &Answer,
@@ -51,17 +51,17 @@ pub(crate) fn is_made<'a, S: Disks>(
     match call.name {
         "account_file_runs" => {
             account_file_runs();
-            answer.say("Ok");
+            answer.display("Ok");
         }
         "AccountFile::open" => open(rt, call, answer, accounts),
         "AccountFile::into_store" => {
             if let Some(Accounts { file, .. }) = accounts.take() {
                 file.into_store();
-                answer.say("Ok");
+                answer.display("Ok");
             }
         }
         _ => match accounts {
-            Some(held) => on_accounts(call, answer, held),
+            Some(held) => make_on_accounts(call, answer, held),
             None => return false,
         },
     }
@@ -80,11 +80,11 @@ fn open<'a, S: Disks>(
     };
     if let Some(file) = answer.ok(S::open(rt, call.word(1))) {
         *accounts = Some(Accounts { policy, file });
-        answer.say("Ok");
+        answer.display("Ok");
     }
 }
 
-fn on_accounts<S: Disks>(call: &Call<'_, '_>, answer: &Answer, held: &mut Accounts<'_, S>) {
+fn make_on_accounts<S: Disks>(call: &Call<'_, '_>, answer: &Answer, held: &mut Accounts<'_, S>) {
     match call.name {
         "AccountFile::write_lines" => write_lines(answer, &mut held.file),
         "AccountFile::checkpoint" => S::checkpoint(answer, &mut held.file),
@@ -92,23 +92,27 @@ fn on_accounts<S: Disks>(call: &Call<'_, '_>, answer: &Answer, held: &mut Accoun
         name => {
             match name {
                 "service::sign_up" => S::sign_up(call, answer, held),
-                name if name.starts_with("AccountFile::") => on_name(call, answer, &mut held.file),
-                _ => with_password(call, answer, held),
+                name if name.starts_with("AccountFile::") => make_on_name(
+                    call,
+                    answer,
+                    &mut held.file,
+                ),
+                _ => make_with_password(call, answer, held),
             }
             show_text(call, answer, &mut held.file);
         }
     }
     if held.file.is_closed() {
-        answer.say("closed");
+        answer.display("closed");
     }
 }
 
 // The lines, joined by spaces.
 fn write_lines<S: Store>(answer: &Answer, file: &mut AccountFile<S>) {
     let mut output = Vec::new(answer.alloc);
-    answer.done(file.write_lines(View::Export, &mut output));
+    answer.display_done(file.write_lines(View::Export, &mut output));
     for entry in str::from_utf8(&output).unwrap_or("").lines() {
-        answer.say(entry);
+        answer.display(entry);
     }
 }
 
@@ -121,38 +125,38 @@ fn add_all<S: Store>(call: &Call<'_, '_>, answer: &Answer, file: &mut AccountFil
         return call.refuse();
     };
     match file.add_all(&[(call.word(1), one), (call.word(3), other)]) {
-        Ok(()) => answer.say("Ok"),
+        Ok(()) => answer.display("Ok"),
         Err((place, e)) => {
-            answer.show(e);
-            answer.say("at");
-            answer.say(place);
+            answer.debug(e);
+            answer.display("at");
+            answer.display(place);
         }
     }
 }
 
 // A call on `NAME`.
-fn on_name<S: Store>(call: &Call<'_, '_>, answer: &Answer, file: &mut AccountFile<S>) {
+fn make_on_name<S: Store>(call: &Call<'_, '_>, answer: &Answer, file: &mut AccountFile<S>) {
     let name = call.word(1);
     match call.name {
         "AccountFile::text_of" => {}
-        "AccountFile::remove" => answer.done(file.remove(name)),
-        "AccountFile::lock" => answer.done(file.lock(name)),
-        "AccountFile::unlock" => answer.done(file.unlock(name)),
+        "AccountFile::remove" => answer.display_done(file.remove(name)),
+        "AccountFile::lock" => answer.display_done(file.lock(name)),
+        "AccountFile::unlock" => answer.display_done(file.unlock(name)),
         // `.. TEXT`.
         "AccountFile::add" => {
             if let Some(text) = answer.ok(PasswordHash::new(call.str(2))) {
-                answer.done(file.add(name, &text));
+                answer.display_done(file.add(name, &text));
             }
         }
         "AccountFile::set" => {
             if let Some(text) = answer.ok(PasswordHash::new(call.str(2))) {
-                answer.done(file.set(name, &text));
+                answer.display_done(file.set(name, &text));
             }
         }
         // `.. OLD NEW`.
         "AccountFile::replace" => {
             if let Some(new) = answer.ok(PasswordHash::new(call.str(3))) {
-                answer.done(file.replace(name, call.word(2), &new));
+                answer.display_done(file.replace(name, call.word(2), &new));
             }
         }
         _ => call.refuse(),
@@ -162,24 +166,26 @@ fn on_name<S: Store>(call: &Call<'_, '_>, answer: &Answer, file: &mut AccountFil
 // The text of `NAME`, or why it can't be read.
 fn show_text<S: Store>(call: &Call<'_, '_>, answer: &Answer, file: &mut AccountFile<S>) {
     if let Some(text) = answer.ok(file.text_of(call.word(1))) {
-        answer.say_or_none(text);
+        answer.display_or_none(text);
     }
 }
 
 // A call on `NAME GENERATOR PASSWORD`, or `NAME GENERATOR OLD NEW`.
-fn with_password<S: Store>(call: &Call<'_, '_>, answer: &Answer, held: &mut Accounts<'_, S>) {
+fn make_with_password<S: Store>(call: &Call<'_, '_>, answer: &Answer, held: &mut Accounts<'_, S>) {
     let (name, mut rng, password) = (call.word(1), call.generator(2), call.bytes(3));
     match call.name {
-        "Accounts::register" => answer.done(held.register(&mut rng, name, password)),
-        "Accounts::log_in" => answer.shown(held.log_in(&mut rng, name, password)),
-        "Accounts::set_password" => answer.done(held.set_password(&mut rng, name, password)),
+        "Accounts::register" => answer.display_done(held.register(&mut rng, name, password)),
+        "Accounts::log_in" => answer.debug_result(held.log_in(&mut rng, name, password)),
+        "Accounts::set_password" => answer.display_done(held.set_password(
+            &mut rng, name, password,
+        )),
         "Accounts::change_password" => {
-            answer.done(held.change_password(&mut rng, name, password, call.bytes(4)));
+            answer.display_done(held.change_password(&mut rng, name, password, call.bytes(4)));
         }
         "service::has_password" => {
-            answer.said(argon2_service::has_password(held, &mut rng, name, password));
+            answer.display_result(argon2_service::has_password(held, &mut rng, name, password));
         }
         _ => call.refuse(),
     }
-    answer.drawn(&rng);
+    answer.display_drawn(&rng);
 }

@@ -19,24 +19,24 @@ use argon2::block::Words;
 use argon2::{Argon2, Block, Error, Kdf, MAX_AD_LEN, MAX_PWD_LEN, MAX_SALT_LEN, Segment, laws};
 use std::convert::AsSlice;
 
-pub(crate) fn is_made(call: &Call<'_, '_>, answer: &Answer, memory: &mut Vec<Block>) -> bool {
+pub(crate) fn make(call: &Call<'_, '_>, answer: &Answer, memory: &mut Vec<Block>) -> bool {
     match call.name {
         "derive_key"
         | "hash_password_into"
         | "hash_password_into_with_data"
-        | "hash_password_into_with_words" => hashed(call, answer),
-        "fill_segment" => filled_apart(call, answer),
-        "memory" => *memory = lent(call, answer),
+        | "hash_password_into_with_words" => hash(call, answer),
+        "fill_segment" => fill_apart(call, answer),
+        "memory" => *memory = lend(call, answer),
         // `COUNT`: how many pairs, each block with each of the last ones, are mixed alike.
         "mix_memory" => {
             let count = memory.len().saturating_sub(call.count(1) as usize);
-            answer.say(alike_pairs(memory, memory.split_at(count).1));
+            answer.display(alike_pairs(memory, memory.split_at(count).1));
         }
         "hash_password_into_with_memory" | "fill_memory" | "begin_fill" => {
-            filled(call, answer, memory.as_mut_slice());
+            fill_lent(call, answer, memory.as_mut_slice());
         }
-        "hash_password_into_watched" => watched(call, answer, memory.as_mut_slice()),
-        "step_block" => stepped(call, answer, memory.as_mut_slice()),
+        "hash_password_into_watched" => watch(call, answer, memory.as_mut_slice()),
+        "step_block" => step_all(call, answer, memory.as_mut_slice()),
         "laws" => {
             laws::mixing_symmetric();
             laws::mixing_with_itself();
@@ -45,7 +45,7 @@ pub(crate) fn is_made(call: &Call<'_, '_>, answer: &Answer, memory: &mut Vec<Blo
             laws::slice_interleaving();
             laws::segments_apart();
             laws::independent_positions();
-            answer.say("Ok");
+            answer.display("Ok");
         }
         _ => return false,
     }
@@ -53,31 +53,31 @@ pub(crate) fn is_made(call: &Call<'_, '_>, answer: &Answer, memory: &mut Vec<Blo
 }
 
 // `.. DATA`: under other associated data; `.. DATA COUNT`: the same on so many blocks of ones, as their words.
-fn hashed(call: &Call<'_, '_>, answer: &Answer) {
+fn hash(call: &Call<'_, '_>, answer: &Answer) {
     let (argon2, password, salt) = inputs(call);
     let (alloc, mut out) = (answer.alloc, answer.ones(call.count(4)));
     let tag = out.as_mut_slice();
     let done = match call.name {
         "derive_key" => {
             let done = argon2.derive_key(alloc, password, salt, tag);
-            return answer.written(done, &out);
+            return answer.display_output(done, &out);
         }
         "hash_password_into" => argon2.hash_password_into(alloc, password, salt, tag),
         "hash_password_into_with_data" => {
             argon2.hash_password_into_with_data(alloc, call.bytes(5), password, salt, tag)
         }
-        _ => on_words(call, answer, tag),
+        _ => hash_on_words(call, answer, tag),
     };
-    answer.written(done, &out);
+    answer.display_output(done, &out);
 }
 
-fn on_words(call: &Call<'_, '_>, answer: &Answer, tag: &mut [u8]) -> Result<(), Error> {
+fn hash_on_words(call: &Call<'_, '_>, answer: &Answer, tag: &mut [u8]) -> Result<(), Error> {
     let (argon2, password, salt) = inputs(call);
     let (data, count) = (call.bytes(5), call.count(6) as usize);
     if data.len() > MAX_AD_LEN {
         return Err(Error::AdTooLong);
     }
-    let mut words = answer.granted(Vec::from_elem(answer.alloc, [u64::MAX; 128], count));
+    let mut words = answer.list_or_empty(Vec::from_elem(answer.alloc, [u64::MAX; 128], count));
     argon2.hash_password_into_with_words(data, password, salt, tag, words.as_mut_slice())
 }
 
@@ -85,9 +85,9 @@ fn on_words(call: &Call<'_, '_>, answer: &Answer, tag: &mut [u8]) -> Result<(), 
 
 // `memory COUNT CONTENT`: the memory that the next calls get, of zeros, of ones, or of blocks with a bit set: each has its next
 // place, and those behind have none.
-fn lent(call: &Call<'_, '_>, answer: &Answer) -> Vec<Block> {
+fn lend(call: &Call<'_, '_>, answer: &Answer) -> Vec<Block> {
     let (count, content) = (call.count(1) as usize, call.word(2));
-    let mut memory = answer.granted(Vec::from_elem(answer.alloc, Block::new(), count));
+    let mut memory = answer.list_or_empty(Vec::from_elem(answer.alloc, Block::new(), count));
     let mut bit: usize = 0;
     for block in memory.as_mut_slice() {
         match content {
@@ -102,7 +102,7 @@ fn lent(call: &Call<'_, '_>, answer: &Answer) -> Vec<Block> {
         }
         bit = bit.wrapping_add(1);
     }
-    answer.say("Ok");
+    answer.display("Ok");
     memory
 }
 
@@ -113,7 +113,7 @@ fn digests(argon2: &Argon2<'_>, memory: &[Block]) -> ([u8; 8], [u8; 8]) {
 }
 
 // Shows whether a call was done, its output, and what it made of the memory, if that had these digests before.
-fn show(
+fn show_filling(
     answer: &Answer,
     done: Result<(), Error>,
     argon2: &Argon2<'_>,
@@ -122,19 +122,19 @@ fn show(
     memory: &[Block],
 ) {
     let (new, is_done) = (digests(argon2, memory), done.is_ok());
-    answer.written(done, out);
-    answer.say("blocks");
+    answer.display_output(done, out);
+    answer.display("blocks");
     if is_done {
-        answer.hex(&new.0);
+        answer.display_hex(&new.0);
     } else {
-        answer.same(new.0 == old.0);
+        answer.display_same(new.0 == old.0);
     }
-    answer.say("rest");
-    answer.same(new.1 == old.1);
+    answer.display("rest");
+    answer.display_same(new.1 == old.1);
 }
 
 // A call that leaves nothing but the output and the memory.
-fn filled(call: &Call<'_, '_>, answer: &Answer, memory: &mut [Block]) {
+fn fill_lent(call: &Call<'_, '_>, answer: &Answer, memory: &mut [Block]) {
     let (argon2, password, salt) = inputs(call);
     let (old, mut out) = (digests(argon2, memory), answer.ones(call.count(4)));
     let tag = out.as_mut_slice();
@@ -143,7 +143,7 @@ fn filled(call: &Call<'_, '_>, answer: &Answer, memory: &mut [Block]) {
         "begin_fill" => argon2.begin_fill(password, salt, tag.len(), memory),
         _ => argon2.hash_password_into_with_memory(password, salt, tag, memory),
     };
-    show(answer, done, argon2, &out, old, memory);
+    show_filling(answer, done, argon2, &out, old, memory);
 }
 
 // How many places there are for the references of all steps.
@@ -157,7 +157,7 @@ fn place_count(argon2: &Argon2<'_>) -> Option<usize>
 }
 
 // `hash_password_into_watched .. PLACE..`, with the positions at these places.
-fn watched(call: &Call<'_, '_>, answer: &Answer, memory: &mut [Block]) {
+fn watch(call: &Call<'_, '_>, answer: &Answer, memory: &mut [Block]) {
     let (argon2, password, salt) = inputs(call);
     let Some(count) = place_count(argon2) else {
         return call.refuse();
@@ -173,19 +173,19 @@ fn watched(call: &Call<'_, '_>, answer: &Answer, memory: &mut [Block]) {
         Ok(work) => (Ok(()), work.mixes()),
         Err(e) => (Err(e), 0),
     };
-    show(answer, done, argon2, &out, old, memory);
-    answer.say("mixes");
-    answer.say(mixes);
+    show_filling(answer, done, argon2, &out, old, memory);
+    answer.display("mixes");
+    answer.display(mixes);
     show_places(call, 5, answer, &positions);
 }
 
 // The digest of all positions, and those at the places that the values from a place on say.
 fn show_places(call: &Call<'_, '_>, place: usize, answer: &Answer, positions: &[u32]) {
-    answer.say("positions");
-    answer.hex(&digest_of_places(positions));
+    answer.display("positions");
+    answer.display_hex(&digest_of_places(positions));
     for place in place..call.len() {
         let place = call.word(place).parse::<usize>().unwrap_or(usize::MAX);
-        answer.say_or_none(positions.get(place));
+        answer.display_or_none(positions.get(place));
     }
 }
 
@@ -193,11 +193,11 @@ fn show_places(call: &Call<'_, '_>, place: usize, answer: &Answer, positions: &[
 
 // `step_block CONTEXT PASSWORD SALT LENGTH TURNS TURNS TURNS TURNS`: a filling by single steps. The words have the lanes'
 // turns in slices 0 to 3 of each pass, a digit for a step. In slice 0 of pass 0 the first two of each lane are no steps.
-fn stepped(call: &Call<'_, '_>, answer: &Answer, memory: &mut [Block]) {
+fn step_all(call: &Call<'_, '_>, answer: &Answer, memory: &mut [Block]) {
     let (argon2, password, salt) = inputs(call);
     let turns = [call.word(5), call.word(6), call.word(7), call.word(8)];
     let count = place_count(argon2).unwrap_or(0);
-    let mut positions = answer.granted(Vec::from_elem(answer.alloc, u32::MAX, count));
+    let mut positions = answer.list_or_empty(Vec::from_elem(answer.alloc, u32::MAX, count));
     let (old, mut out) = (digests(argon2, memory), answer.ones(call.count(4)));
     let done = argon2.begin_fill(password, salt, out.len(), memory);
     let is_begun = done.is_ok();
@@ -210,7 +210,7 @@ fn stepped(call: &Call<'_, '_>, answer: &Answer, memory: &mut [Block]) {
             call.refuse();
         }
     }
-    show(answer, done, argon2, &out, old, memory);
+    show_filling(answer, done, argon2, &out, old, memory);
     if is_begun {
         show_places(call, 9, answer, &positions);
     }
@@ -282,11 +282,11 @@ fn finish(argon2: &Argon2<'_>, memory: &[Block], out: &mut [u8]) -> bool {
 
 // `fill_segment CONTEXT PASSWORD SALT LENGTH LANES LANES LANES LANES`: a filling by segments, on blocks of ones. The words have
 // the lanes of slices 0 to 3 in the order in which each pass fills them, a digit for a lane. The answer is the tag.
-fn filled_apart(call: &Call<'_, '_>, answer: &Answer) {
+fn fill_apart(call: &Call<'_, '_>, answer: &Answer) {
     let (argon2, password, salt) = inputs(call);
     let lanes = [call.word(5), call.word(6), call.word(7), call.word(8)];
     let (count, mut out) = (argon2.params().block_count(), answer.ones(call.count(4)));
-    let mut memory = answer.granted(Vec::from_elem(answer.alloc, [u64::MAX; 128], count));
+    let mut memory = answer.list_or_empty(Vec::from_elem(answer.alloc, [u64::MAX; 128], count));
     let mut is_done = begin(argon2, password, salt, out.len(), memory.as_mut_slice());
     for pass in 0..argon2.params().t_cost() {
         for (slice, lanes) in (0..4u32).zip(lanes) {
@@ -299,7 +299,7 @@ fn filled_apart(call: &Call<'_, '_>, answer: &Answer) {
     if !is_done || !finish_apart(argon2, &memory, out.as_mut_slice()) {
         call.refuse();
     }
-    answer.hex(&out);
+    answer.display_hex(&out);
 }
 
 // The lengths of a segment and of a slice.

@@ -52,7 +52,7 @@ pub fn lines_of(alloc: Global, text: &str) -> Result<Vec<Line<'_>>, AllocError> 
 fn bytes_of(alloc: Global, line: &str) -> Result<Vec<Option<Vec<u8>>>, AllocError> {
     let mut all = Vec::new(alloc);
     for word in line.split(' ') {
-        all.push(decoded(alloc, halves(word).1)?)?;
+        all.push(decode(alloc, halves(word).1)?)?;
     }
     Ok(all)
 }
@@ -66,16 +66,16 @@ pub(crate) fn halves(word: &str) -> (&str, &str) {
 }
 
 // The bytes of a word in hex.
-fn decoded(alloc: Global, word: &str) -> Result<Option<Vec<u8>>, AllocError> {
+fn decode(alloc: Global, word: &str) -> Result<Option<Vec<u8>>, AllocError> {
     let (mut bytes, mut is_hex) = (Vec::new(alloc), true);
     for piece in word.split('+') {
-        is_hex &= read(piece, &mut bytes)?;
+        is_hex &= read_piece(piece, &mut bytes)?;
     }
     Ok(if is_hex { Some(bytes) } else { None })
 }
 
 // Puts the bytes of a piece behind others. Returns whether it is such a piece.
-fn read(piece: &str, bytes: &mut Vec<u8>) -> Result<bool, AllocError> {
+fn read_piece(piece: &str, bytes: &mut Vec<u8>) -> Result<bool, AllocError> {
     let Some((count, digits)) = piece.split_once('*') else {
         return Ok(false);
     };

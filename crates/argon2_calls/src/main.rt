@@ -63,7 +63,7 @@ fn write_all<'a, S: Disks, W: Write>(
     };
     for line in lines {
         let call = Call::new(line, &contexts);
-        if !is_made(rt, &call, &answer, &mut left) {
+        if !make(rt, &call, &answer, &mut left) {
             call.refuse();
         }
         answer.write(&call, output)?;
@@ -71,18 +71,19 @@ fn write_all<'a, S: Disks, W: Write>(
     output.flush()
 }
 
-fn is_made<'a, S: Disks>(
+// Makes a call. Returns whether there is a call of its name.
+fn make<'a, S: Disks>(
     rt: &HostRuntime,
     call: &Call<'_, 'a>,
     answer: &Answer,
     left: &mut Left<'a, S>,
 ) -> bool {
-    blocks::is_made(call, answer)
-        || hashing::is_made(call, answer, &mut left.memory)
-        || texts::is_made(call, answer)
-        || types::is_made(call, answer)
-        || uses::is_made(call, answer, &mut left.login)
-        || files::is_made(rt, call, answer, &mut left.accounts)
+    blocks::make(call, answer)
+        || hashing::make(call, answer, &mut left.memory)
+        || texts::make(call, answer)
+        || types::make(call, answer)
+        || uses::make(call, answer, &mut left.login)
+        || files::make(rt, call, answer, &mut left.accounts)
 }
 
 // The context of a value, for a call that takes it.

@@ -17,11 +17,11 @@ use argon2_policy::Policy;
 use std::fmt::Debug;
 use std::result::Result as Outcome;
 
-pub(crate) fn is_made(call: &Call<'_, '_>, answer: &Answer) -> bool {
-    is_of_params(call, answer)
-        || is_of_texts(call, answer)
-        || is_of_passwords(call, answer)
-        || is_of_bounds(call, answer)
+pub(crate) fn make(call: &Call<'_, '_>, answer: &Answer) -> bool {
+    make_of_params(call, answer)
+        || make_of_texts(call, answer)
+        || make_of_passwords(call, answer)
+        || make_of_bounds(call, answer)
 }
 
 // ---- parameters, and what they are made of
@@ -47,65 +47,65 @@ static ERRORS: [Error; 18] = [
     Error::OutOfMemory,
 ];
 
-fn is_of_params(call: &Call<'_, '_>, answer: &Answer) -> bool {
+fn make_of_params(call: &Call<'_, '_>, answer: &Answer) -> bool {
     match call.name {
         "context" => context::define(call, answer),
         "Argon2::algorithm" => {
-            answer.show(call.context(1).algorithm());
-            answer.show(call.context(1).version());
+            answer.debug(call.context(1).algorithm());
+            answer.debug(call.context(1).version());
         }
-        "Argon2::fmt" => answer.show(call.context(1)),
+        "Argon2::fmt" => answer.debug(call.context(1)),
         // `M T P LENGTH`.
         "Params::new" => {
             let (m, t, p) = (call.count(1), call.count(2), call.count(3));
-            shown(answer, Params::new(m, t, p, call.number(4)));
+            show_params(answer, Params::new(m, t, p, call.number(4)));
         }
         // What they say, and their text.
         "Params::default" => {
-            shown(answer, Ok(Params::default()));
-            answer.say(Params::default());
+            show_params(answer, Ok(Params::default()));
+            answer.display(Params::default());
         }
-        "ParamsBuilder::new" => shown(answer, ParamsBuilder::new().build()),
+        "ParamsBuilder::new" => show_params(answer, ParamsBuilder::new().build()),
         "ParamsBuilder::build" => {
             if let Some((params, _)) = answer.ok(context::settings(call, 1)) {
-                shown(answer, Ok(params));
+                show_params(answer, Ok(params));
             }
         }
-        "ParamsBuilder::fmt" => answer.shown(context::builder(call, 1)),
+        "ParamsBuilder::fmt" => answer.debug_result(context::builder(call, 1)),
         // An algorithm, and its name in three forms.
         "Algorithm::new" => {
             if let Some(it) = answer.ok(Algorithm::new(call.word(1))) {
-                answer.show(it);
-                answer.say(it);
-                answer.say(it.as_str());
-                answer.say(it.ident());
+                answer.debug(it);
+                answer.display(it);
+                answer.display(it.as_str());
+                answer.display(it.ident());
             }
         }
-        "Algorithm::try_from" => answer.shown(Algorithm::try_from(call.word(1))),
+        "Algorithm::try_from" => answer.debug_result(Algorithm::try_from(call.word(1))),
         // `NUMBER`: a version and its number.
         "Version::try_from" => {
             if let Some(it) = answer.ok(Version::try_from(call.count(1))) {
-                answer.show(it);
-                answer.say(u32::from(it));
+                answer.debug(it);
+                answer.display(u32::from(it));
             }
         }
-        "KeyId::new" => answer.shown(KeyId::new(call.bytes(1))),
-        "KeyId::from_b64" => answer.shown(KeyId::from_b64(call.word(1))),
+        "KeyId::new" => answer.debug_result(KeyId::new(call.bytes(1))),
+        "KeyId::from_b64" => answer.debug_result(KeyId::from_b64(call.word(1))),
         // `BYTES BYTES`.
         "KeyId::cmp" => match (KeyId::new(call.bytes(1)), KeyId::new(call.bytes(2))) {
-            (Ok(one), Ok(other)) => answer.show(one.cmp(&other)),
+            (Ok(one), Ok(other)) => answer.debug(one.cmp(&other)),
             _ => call.refuse(),
         },
-        "AssociatedData::new" => answer.shown(AssociatedData::new(call.bytes(1))),
-        "AssociatedData::from_b64" => answer.shown(AssociatedData::from_b64(call.word(1))),
+        "AssociatedData::new" => answer.debug_result(AssociatedData::new(call.bytes(1))),
+        "AssociatedData::from_b64" => answer.debug_result(AssociatedData::from_b64(call.word(1))),
         // `PLACE`: the error, its text, and those that it gives, with their texts.
         "Error::from" => {
             if let Some(error) = ERRORS.get(call.count(1) as usize) {
-                answer.show(error);
-                answer.say(error);
-                answer.show(password_hash::Error::from(*error));
-                answer.say(password_hash::Error::from(*error));
-                answer.say(kdf::Error::from(*error));
+                answer.debug(error);
+                answer.display(error);
+                answer.debug(password_hash::Error::from(*error));
+                answer.display(password_hash::Error::from(*error));
+                answer.display(kdf::Error::from(*error));
             }
         }
         _ => return false,
@@ -114,45 +114,45 @@ fn is_of_params(call: &Call<'_, '_>, answer: &Answer) -> bool {
 }
 
 // All that parameters say: costs, key identifier, data, output length, and how many blocks all lanes and one have.
-fn shown(answer: &Answer, made: Outcome<Params, Error>) {
+fn show_params(answer: &Answer, made: Outcome<Params, Error>) {
     if let Some(it) = answer.ok(made) {
-        answer.say(it.m_cost());
-        answer.say(it.t_cost());
-        answer.say(it.p_cost());
-        answer.show(it.keyid());
-        answer.show(it.data());
-        answer.say_or_none(it.output_len());
-        answer.say(it.block_count());
-        answer.say(it.lane_length());
+        answer.display(it.m_cost());
+        answer.display(it.t_cost());
+        answer.display(it.p_cost());
+        answer.debug(it.keyid());
+        answer.debug(it.data());
+        answer.display_or_none(it.output_len());
+        answer.display(it.block_count());
+        answer.display(it.lane_length());
     }
 }
 
 // ---- texts
 
-fn is_of_texts(call: &Call<'_, '_>, answer: &Answer) -> bool {
+fn make_of_texts(call: &Call<'_, '_>, answer: &Answer) -> bool {
     match call.name {
-        "Salt::new" => answer.said(Salt::new(call.bytes(1))),
-        "Output::new" => answer.said(Output::new(call.bytes(1))),
-        "Ident::new" => answer.said(Ident::new(call.str(1))),
-        "Params::from_str" => answer.said(call.str(1).parse::<Params>()),
-        "ParamsString::try_from" => answer.shown(list_of(call.str(1))),
-        "ParamsString::new" => answer.show(ParamsString::new()),
+        "Salt::new" => answer.display_result(Salt::new(call.bytes(1))),
+        "Output::new" => answer.display_result(Output::new(call.bytes(1))),
+        "Ident::new" => answer.display_result(Ident::new(call.str(1))),
+        "Params::from_str" => answer.display_result(call.str(1).parse::<Params>()),
+        "ParamsString::try_from" => answer.debug_result(list_of(call.str(1))),
+        "ParamsString::new" => answer.debug(ParamsString::new()),
         // `TEXT VERSION SALT HASH`: the text with these for what it has; no bytes if it has no salt or no hash.
         "PasswordHash::text" => {
             if let Some(value) = answer.ok(with_fields(call)) {
-                answer.say(value.text().as_str());
+                answer.display(value.text().as_str());
             }
         }
-        "PasswordHash::new" => answer.said(PasswordHash::new(call.str(1))),
-        "PasswordHash::fmt" => answer.shown(PasswordHash::new(call.str(1))),
+        "PasswordHash::new" => answer.display_result(PasswordHash::new(call.str(1))),
+        "PasswordHash::fmt" => answer.debug_result(PasswordHash::new(call.str(1))),
         "PasswordHash.fields" | "Params::try_from" | "Settings::try_from" | "Stored::try_from" => {
             if let Some(value) = answer.ok(PasswordHash::new(call.str(1))) {
-                on_value(call, answer, &value);
+                make_on_value(call, answer, &value);
             }
         }
         name if name.starts_with("ParamsString::") || name == "Value::decimal" => {
             if let Some(mut list) = answer.ok(call.str(1).parse::<ParamsString>()) {
-                on_list(call, answer, &mut list);
+                make_on_list(call, answer, &mut list);
             }
         }
         _ => return false,
@@ -169,34 +169,34 @@ fn list_of(text: &str) -> Result<Option<ParamsString>> {
 }
 
 // A call on the value of a text.
-fn on_value(call: &Call<'_, '_>, answer: &Answer, value: &PasswordHash) {
+fn make_on_value(call: &Call<'_, '_>, answer: &Answer, value: &PasswordHash) {
     match call.name {
         // The identifier, the version, the list, the salt and the hash.
         "PasswordHash.fields" => {
-            answer.say(value.algorithm.as_str());
-            answer.say_or_none(value.version);
-            answer.show(&value.params);
-            answer.say_or_none(value.salt.as_ref());
-            answer.say_or_none(value.hash.as_ref());
+            answer.display(value.algorithm.as_str());
+            answer.display_or_none(value.version);
+            answer.debug(&value.params);
+            answer.display_or_none(value.salt.as_ref());
+            answer.display_or_none(value.hash.as_ref());
         }
         // The parameters, and the output length.
         "Params::try_from" => {
             if let Some(params) = answer.ok(Params::try_from(value)) {
-                shown_text(answer, &params);
+                show_list(answer, &params);
             }
         }
         // The same behind the algorithm and the version.
         "Settings::try_from" => {
             if let Some(it) = answer.ok(Settings::try_from(value)) {
-                settings(answer, &it);
+                show_settings(answer, &it);
             }
         }
         // The same, the salt and the hash.
         _ => {
             if let Some(it) = answer.ok(Stored::try_from(value)) {
-                settings(answer, &it.settings);
-                answer.say(it.salt.text().as_str());
-                answer.say(it.hash.text().as_str());
+                show_settings(answer, &it.settings);
+                answer.display(it.salt.text().as_str());
+                answer.display(it.hash.text().as_str());
             }
         }
     }
@@ -221,43 +221,43 @@ fn version(call: &Call<'_, '_>, place: usize) -> Option<u32> {
     u32::try_from(call.number(place)?).ok()
 }
 
-fn settings(answer: &Answer, it: &Settings) {
-    answer.say(it.algorithm.as_str());
-    answer.say(u32::from(it.version));
-    shown_text(answer, &it.params);
+fn show_settings(answer: &Answer, it: &Settings) {
+    answer.display(it.algorithm.as_str());
+    answer.display(u32::from(it.version));
+    show_list(answer, &it.params);
 }
 
-fn shown_text(answer: &Answer, params: &Params) {
-    answer.say(params);
-    answer.say_or_none(params.output_len());
+fn show_list(answer: &Answer, params: &Params) {
+    answer.display(params);
+    answer.display_or_none(params.output_len());
 }
 
 // A call on a parameter list.
-fn on_list(call: &Call<'_, '_>, answer: &Answer, list: &mut ParamsString) {
+fn make_on_list(call: &Call<'_, '_>, answer: &Answer, list: &mut ParamsString) {
     match call.name {
-        "ParamsString::from_str" => answer.show(list),
+        "ParamsString::from_str" => answer.debug(list),
         // The names and values, in order.
         "ParamsString::iter" => {
             for (name, value) in list.iter() {
-                answer.say(name.as_str());
-                answer.say(value.as_str());
+                answer.display(name.as_str());
+                answer.display(value.as_str());
             }
         }
         // `LIST NAME`: the value, or its number.
         "ParamsString::get" | "Value::decimal" => match list.get(call.word(2)) {
-            Some(value) if call.name == "Value::decimal" => answer.said(value.decimal()),
-            Some(value) => answer.say(value.as_str()),
-            None => answer.say("none"),
+            Some(value) if call.name == "Value::decimal" => answer.display_result(value.decimal()),
+            Some(value) => answer.display(value.as_str()),
+            None => answer.display("none"),
         },
         // `LIST NAME NUMBER`: `Ok` or the error, and the list then.
         "ParamsString::add_decimal" => {
-            answer.done(list.add_decimal(call.str(2), call.count(3)));
-            answer.show(list);
+            answer.display_done(list.add_decimal(call.str(2), call.count(3)));
+            answer.debug(list);
         }
         // `LIST NAME BYTES`: the same.
         "ParamsString::add_b64_bytes" => {
-            answer.done(list.add_b64_bytes(call.str(2), call.bytes(3)));
-            answer.show(list);
+            answer.display_done(list.add_b64_bytes(call.str(2), call.bytes(3)));
+            answer.debug(list);
         }
         _ => call.refuse(),
     }
@@ -265,19 +265,19 @@ fn on_list(call: &Call<'_, '_>, answer: &Answer, list: &mut ParamsString) {
 
 // ---- passwords
 
-fn is_of_passwords(call: &Call<'_, '_>, answer: &Answer) -> bool {
+fn make_of_passwords(call: &Call<'_, '_>, answer: &Answer) -> bool {
     let alloc = answer.alloc;
     match call.name {
         // `CONTEXT GENERATOR PASSWORD`: the text.
         "hash_password" => {
             let (argon2, mut rng) = (call.context(1), call.generator(2));
-            answer.said(argon2.hash_password(alloc, &mut rng, call.bytes(3)));
-            answer.drawn(&rng);
+            answer.display_result(argon2.hash_password(alloc, &mut rng, call.bytes(3)));
+            answer.display_drawn(&rng);
         }
         // `CONTEXT PASSWORD SALT`: the text.
         "hash_password_with_salt" => {
             let (argon2, password, salt) = inputs(call);
-            answer.said(argon2.hash_password_with_salt(alloc, password, salt));
+            answer.display_result(argon2.hash_password_with_salt(alloc, password, salt));
         }
         // `CONTEXT PASSWORD SALT ALGORITHM VERSION CONTEXT`: the text under the second context's parameters, and an algorithm
         // and a version or `none`.
@@ -288,20 +288,20 @@ fn is_of_passwords(call: &Call<'_, '_>, answer: &Answer) -> bool {
                 name => Some(name),
             };
             let (version, params) = (version(call, 5), *call.context(6).params());
-            answer.said(argon2.hash_password_customized(
+            answer.display_result(argon2.hash_password_customized(
                 alloc, password, salt, name, version, params,
             ));
         }
         // `CONTEXT PASSWORD TEXT`.
         "verify_password" => {
             let (argon2, password) = (call.context(1), call.bytes(2));
-            answer.done(argon2.verify_password(alloc, password, call.str(3)));
+            answer.display_done(argon2.verify_password(alloc, password, call.str(3)));
         }
         // The same of the text's value.
         "verify_password::<PasswordHash>" => {
             let (argon2, password) = (call.context(1), call.bytes(2));
             if let Some(value) = answer.ok(PasswordHash::new(call.str(3))) {
-                answer.done(argon2.verify_password(alloc, password, &value));
+                answer.display_done(argon2.verify_password(alloc, password, &value));
             }
         }
         _ => return false,
@@ -311,18 +311,18 @@ fn is_of_passwords(call: &Call<'_, '_>, answer: &Answer) -> bool {
 
 // A call on a bound, `M T P`, on a store's target, `CONTEXT`, or on a policy, which `CONTEXT M T P` make; and then the
 // call's values.
-fn is_of_bounds(call: &Call<'_, '_>, answer: &Answer) -> bool {
+fn make_of_bounds(call: &Call<'_, '_>, answer: &Answer) -> bool {
     match call.name {
         // `.. TEXT`: the blocks.
         "Bound::admit" => {
             if let Some(admitted) = answer.ok(call.bound(1).admit(call.word(4))) {
-                answer.say(admitted.blocks);
+                answer.display(admitted.blocks);
             }
         }
         // The same of the text's value.
         "Bound::admit_hash" => {
             if let Some(value) = answer.ok(PasswordHash::new(call.str(4))) {
-                answer.said(call.bound(1).admit_hash(&value));
+                answer.display_result(call.bound(1).admit_hash(&value));
             }
         }
         // `.. CONTEXT PASSWORD TEXT`, by what the text's value shows.
@@ -331,103 +331,108 @@ fn is_of_bounds(call: &Call<'_, '_>, answer: &Answer) -> bool {
             if let Some(value) = answer.ok(PasswordHash::new(call.str(6)))
                 && let Some(stored) = answer.ok(call.bound(1).admit_stored(&value))
             {
-                answer.done(argon2.verify_stored(answer.alloc, password, &stored));
+                answer.display_done(argon2.verify_stored(answer.alloc, password, &stored));
             }
         }
         // `.. CONTEXT`: whether it allows the context's parameters.
-        "Bound::allows" => answer.say(call.bound(1).allows(call.context(4).params())),
+        "Bound::allows" => answer.display(call.bound(1).allows(call.context(4).params())),
         // `.. CONTEXT PASSWORD TEXT`.
         "Bound::verify" => {
             let (argon2, password, text) = (call.context(4), call.bytes(5), call.word(6));
-            answer.done(call.bound(1).verify(answer.alloc, argon2, password, text));
+            answer.display_done(call.bound(1).verify(answer.alloc, argon2, password, text));
         }
-        name if name.starts_with("Target::") => of_target(call, answer),
-        name if name.starts_with("Policy::") => of_policy(call, answer),
+        name if name.starts_with("Target::") => make_of_target(call, answer),
+        name if name.starts_with("Policy::") => make_of_policy(call, answer),
         _ => return false,
     }
     true
 }
 
-fn of_target(call: &Call<'_, '_>, answer: &Answer) {
+fn make_of_target(call: &Call<'_, '_>, answer: &Answer) {
     if let Some(target) = answer.ok(Target::new(own_context(call, 1))) {
         match call.name {
-            "Target::new" => answer.say("Ok"),
-            _ => on_target(call, answer, &target),
+            "Target::new" => answer.display("Ok"),
+            _ => make_on_target(call, answer, &target),
         }
     }
 }
 
 // `.. GENERATOR PASSWORD`, and a text unless one is made.
-fn on_target(call: &Call<'_, '_>, answer: &Answer, target: &Target<'_>) {
+fn make_on_target(call: &Call<'_, '_>, answer: &Answer, target: &Target<'_>) {
     let (mut rng, password, alloc) = (call.generator(2), call.bytes(3), answer.alloc);
     if call.name == "Target::hash_password" {
-        answer.said(target.hash_password(alloc, &mut rng, password));
-        answer.drawn(&rng);
+        answer.display_result(target.hash_password(alloc, &mut rng, password));
+        answer.display_drawn(&rng);
     } else if let Some(value) = answer.ok(PasswordHash::new(call.str(4))) {
         let Some(it) = answer.ok(Stored::try_from(&value)) else {
             return;
         };
         match call.name {
-            "Target::verify" => answer.done(target.verify(alloc, password, &it)),
+            "Target::verify" => answer.display_done(target.verify(alloc, password, &it)),
             _ => {
                 let done = target.log_in(alloc, &mut rng, password, &it);
-                logged_in(answer, done, &rng);
+                show_login(answer, done, &rng);
             }
         }
     }
 }
 
-fn of_policy(call: &Call<'_, '_>, answer: &Answer) {
+fn make_of_policy(call: &Call<'_, '_>, answer: &Answer) {
     let made = Policy::new(answer.alloc, own_context(call, 1), call.bound(2));
     if let Some(policy) = answer.ok(made) {
         match call.name {
-            "Policy::new" => answer.say("Ok"),
+            "Policy::new" => answer.display("Ok"),
             // `.. SECRET GENERATOR PASSWORD STORED`: a login, for which a text may also be one under the old secret.
             "Policy::with_old_secret" => {
                 if let Some(policy) = answer.ok(policy.with_old_secret(call.bytes(5))) {
-                    on_policy(call, 6, answer, &policy);
+                    make_on_policy(call, 6, answer, &policy);
                 }
             }
-            _ => on_policy(call, 5, answer, &policy),
+            _ => make_on_policy(call, 5, answer, &policy),
         }
     }
 }
 
 // `.. GENERATOR PASSWORD`, then the new password if it is changed, and what is stored, or `none`, unless a text is made.
-fn on_policy(call: &Call<'_, '_>, place: usize, answer: &Answer, policy: &Policy<'_>) {
+fn make_on_policy(call: &Call<'_, '_>, place: usize, answer: &Answer, policy: &Policy<'_>) {
     let (mut rng, password) = (call.generator(place), call.bytes(place.saturating_add(1)));
     match call.name {
         "Policy::hash_password" => {
-            answer.said(policy.hash_password(&mut rng, password));
-            answer.drawn(&rng);
+            answer.display_result(policy.hash_password(&mut rng, password));
+            answer.display_drawn(&rng);
         }
         "Policy::change_password" => {
-            answer.said(policy.change_password(&mut rng, stored(call, 8), password, call.bytes(7)));
-            answer.drawn(&rng);
+            answer.display_result(policy.change_password(
+                &mut rng,
+                stored_or_none(call, 8),
+                password,
+                call.bytes(7),
+            ));
+            answer.display_drawn(&rng);
         }
         _ => {
-            let stored = stored(call, place.saturating_add(2));
-            logged_in(answer, policy.log_in(&mut rng, stored, password), &rng);
+            let stored = stored_or_none(call, place.saturating_add(2));
+            show_login(answer, policy.log_in(&mut rng, stored, password), &rng);
         }
     }
 }
 
 // What is stored for a name.
-fn stored<'a>(call: &Call<'_, 'a>, place: usize) -> Option<&'a str> {
+fn stored_or_none<'a>(call: &Call<'_, 'a>, place: usize) -> Option<&'a str> {
     Some(call.word(place)).filter(|word| *word != "none")
 }
 
 // What a login did, how many bytes it drew, and the fresh text.
-fn logged_in<E: Debug + Drop>(answer: &Answer, done: Outcome<LoggedIn, E>, rng: &Drawn) {
+fn show_login<E: Debug + Drop>(answer: &Answer, done: Outcome<LoggedIn, E>, rng: &Drawn) {
     match done {
         Ok(LoggedIn { accepted, fresh }) => {
-            answer.show(accepted);
-            answer.drawn(rng);
-            answer.say_or_none(fresh);
+            answer.debug(accepted);
+            answer.display_drawn(rng);
+            answer.display_or_none(fresh);
         }
         Err(e) => {
-            answer.show(e);
-            answer.drawn(rng);
+            answer.debug(e);
+            answer.display_drawn(rng);
         }
     }
 }

@@ -12,14 +12,14 @@ use argon2_base::phc::{ARGON2D_IDENT, ARGON2I_IDENT, ARGON2ID_IDENT, Ident};
 use std::convert::AsSlice;
 use std::hash::{DefaultHasher, Hash, Hasher};
 
-pub(crate) fn is_made(call: &Call<'_, '_>, answer: &Answer) -> bool {
+pub(crate) fn make(call: &Call<'_, '_>, answer: &Answer) -> bool {
     match call.name {
         "types::limits" => limits(answer),
         // The others answer whether all is as it should be.
-        "types::defaults" => answer.said(has_defaults()),
-        "types::names" => answer.say(orders_names()),
-        "types::lists" => answer.said(orders_lists()),
-        "types::bytes" => answer.said(reads_bytes()),
+        "types::defaults" => answer.display_result(has_defaults()),
+        "types::names" => answer.display(orders_names()),
+        "types::lists" => answer.display_result(orders_lists()),
+        "types::bytes" => answer.display_result(reads_bytes()),
         _ => return false,
     }
     true
@@ -34,10 +34,10 @@ fn limits(answer: &Answer) {
         [Params::DEFAULT_M_COST, Params::DEFAULT_T_COST],
     ];
     for [one, other] in costs {
-        answer.say(one);
-        answer.say(other);
+        answer.display(one);
+        answer.display(other);
     }
-    answer.say(Params::DEFAULT_P_COST);
+    answer.display(Params::DEFAULT_P_COST);
     let lengths = [
         [Params::MIN_OUTPUT_LEN, Params::MAX_OUTPUT_LEN],
         [MIN_SALT_LEN, MAX_SALT_LEN],
@@ -50,8 +50,8 @@ fn limits(answer: &Answer) {
         [Params::MAX_DATA_LEN, AssociatedData::MAX_LEN],
     ];
     for [one, other] in lengths {
-        answer.say(one);
-        answer.say(other);
+        answer.display(one);
+        answer.display(other);
     }
 }
 
