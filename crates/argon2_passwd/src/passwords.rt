@@ -12,7 +12,7 @@ use std::io::BufRead;
 pub const LONGEST: usize = 4096;
 
 /// The next line of the input, without its LF or CR LF.
-pub fn password<R: BufRead>(alloc: Global, input: &mut R) -> Result<Vec<u8>, Failure>
+pub fn read_password<R: BufRead>(alloc: Global, input: &mut R) -> Result<Vec<u8>, Failure>
     ensures found { IfOk result (λ password. IfSome (R.remaining input.old)
         (λ bytes. password_of bytes ≡ Some password.items)) }
     ensures rest { OnOk result (DropsThrough (R.remaining input.old) (R.remaining input.new) 10) }
@@ -33,13 +33,13 @@ pub fn password<R: BufRead>(alloc: Global, input: &mut R) -> Result<Vec<u8>, Fai
 }
 
 /// The same as a new password, which is not empty.
-pub fn new_password<R: BufRead>(alloc: Global, input: &mut R) -> Result<Vec<u8>, Failure>
+pub fn read_new_password<R: BufRead>(alloc: Global, input: &mut R) -> Result<Vec<u8>, Failure>
     ensures found { IfOk result (λ password. IfSome (R.remaining input.old)
         (λ bytes. password_of bytes ≡ Some password.items)) }
     ensures some { IfOk result (λ password. password.items ≢ []) }
     ensures refused { IfErr result (IsNotNew (R.remaining input.old)) }
 {
-    let password = password(alloc, input)?;
+    let password = read_password(alloc, input)?;
     if password.is_empty() {
         return Err(Failure::EmptyPassword);
     }

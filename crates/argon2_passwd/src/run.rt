@@ -8,7 +8,7 @@ use crate::command::{Action, Command, EditTask, Task};
 use crate::failure::{Failure, Flaw};
 use crate::options::Options;
 use crate::outside::{News, Outside};
-use crate::passwords::{new_password, password};
+use crate::passwords::{read_new_password, read_password};
 use argon2::{Algorithm, Argon2, PasswordHash, Version};
 use argon2_policy::Policy;
 use argon2_programs::write_line;
@@ -198,8 +198,8 @@ fn new_text<P: Outside, R: BufRead>(
     ensures err { IfErr result (IsNotNew (R.remaining input.old)) }
 {
     let mut rng = generator(outside)?;
-    let password = new_password(alloc, input)?;
-    texts::fresh(policy, &mut rng, password.as_slice())
+    let password = read_new_password(alloc, input)?;
+    texts::fresh_text(policy, &mut rng, password.as_slice())
 }
 
 // Writes what a text does with the next password.
@@ -215,7 +215,7 @@ fn check<P: Outside, R: BufRead, W: Write>(
         (R.remaining input.old) (W.contents output.old) (W.contents output.new) }
 {
     let mut rng = generator(outside)?;
-    let password = password(alloc, input)?;
+    let password = read_password(alloc, input)?;
     let done = policy.log_in(&mut rng, Some(text), password.as_slice())?;
     let reply = texts::reply(alloc, &done)?;
     say(output, reply.as_str())

@@ -11,7 +11,7 @@ use crate::entries::read_all;
 use crate::failure::{Failure, Flaw};
 use crate::lines::{entries_and_flaws, read_lines};
 use crate::outside::{IfAbsent, Outside, RowCheck};
-use crate::passwords::password;
+use crate::passwords::read_password;
 use argon2::login::{Accepted, LoggedIn};
 use argon2_policy::Policy;
 use argon2_rows::StoredText;
@@ -84,7 +84,7 @@ fn verify<P: Outside, R: BufRead, W: Write>(
         (W.contents output.old) (W.contents output.new) (P.closed outside.new) }
 {
     let mut rng = generator(outside)?;
-    let password = password(alloc, input)?;
+    let password = read_password(alloc, input)?;
     let accepted = log_in(outside, access, name, &mut rng, password.as_slice())?;
     say(output, accepted.as_str())
 }

@@ -9,7 +9,7 @@ use crate::command::{Action, EditTask, Task};
 use crate::entries::name_flaw;
 use crate::failure::Failure;
 use crate::outside::Outside;
-use crate::passwords::{new_password, password};
+use crate::passwords::{read_new_password, read_password};
 use argon2_store::Edit;
 use std::alloc::Global;
 use std::io::BufRead;
@@ -80,8 +80,8 @@ fn change<P: Outside, R: BufRead>(
         (R.remaining input.old) output output (P.closed outside.new) }
 {
     let mut rng = generator(outside)?;
-    let first = password(alloc, input)?;
-    let second = new_password(alloc, input)?;
+    let first = read_password(alloc, input)?;
+    let second = read_new_password(alloc, input)?;
     let (first, second) = (first.as_slice(), second.as_slice());
     let text = stored_text(outside, access, name)?;
     let stored = text.as_deref();

@@ -12,7 +12,7 @@ use rand_core::Rng;
 use std::alloc::{AllocError, Global};
 
 /// A fresh text of a password.
-pub fn fresh<G: Rng>(
+pub fn fresh_text<G: Rng>(
     policy: &Policy<'_>,
     rng: &mut G,
     password: &[u8],
