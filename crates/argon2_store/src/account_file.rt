@@ -67,7 +67,7 @@ impl<S: Store> AccountFile<S> {
             RowEdit::Replace(old, new) => replace(store, row, name, old, new.text().as_str()),
             RowEdit::Remove(old) => remove(store, row, name, old),
             RowEdit::Lock(old) => {
-                let locked = locked(self.alloc, old)?;
+                let locked = add_lock(self.alloc, old)?;
                 replace(store, row, name, old, locked.as_str())
             }
             RowEdit::Unlock(old, bare) => replace(store, row, name, old, bare),
@@ -416,7 +416,7 @@ impl<D: Disk> AccountFile<FileStore<D>> {
 }
 
 // A text behind `!`.
-fn locked(alloc: Global, text: &str) -> Result<String, AllocError>
+fn add_lock(alloc: Global, text: &str) -> Result<String, AllocError>
     ensures { IfOk result (λ locked. string_bytes locked ≡ 33 ∷ text.now) }
 {
     let mut locked = String::from_str(alloc, "!")?;

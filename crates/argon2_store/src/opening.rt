@@ -176,7 +176,7 @@ pub(crate) fn is_damaged<D: Disk>(log: &mut D) -> io::Result<bool>
 }
 
 // The error of the system on a new file.
-fn refused(error: io::Error) -> OpenError {
+fn system_error(error: io::Error) -> OpenError {
     match error.kind() {
         ErrorKind::OutOfMemory => OpenError::OutOfMemory,
         ErrorKind::StorageFull => OpenError::Full,
@@ -233,7 +233,7 @@ fn is_beside(rt: &HostRuntime, path: &str, ending: &str) -> Result<bool, OpenErr
     match fs::symlink_metadata(rt, name.as_str()) {
         Ok(_) => Ok(true),
         Err(error) if error.kind() == ErrorKind::NotFound => Ok(false),
-        Err(error) => Err(refused(error)),
+        Err(error) => Err(system_error(error)),
     }
 }
 
@@ -247,7 +247,7 @@ fn check_alone(rt: &HostRuntime, path: &str) -> Result<(), OpenError> {
 
 // Writes a database with no table into a file, for its owner alone. It has one page, which is written whole before there is a
 // log, so that sqlite3 opens what a kill leaves. A failure to write it leaves the file empty.
-fn begin(file: &mut File) -> io::Result<()> {
+fn write_first_page(file: &mut File) -> io::Result<()> {
     file.set_permissions(Permissions::from_mode(0o600))?;
     let done = file.write_all(&first_page());
     if done.is_err() {
@@ -266,7 +266,7 @@ fn make(rt: &HostRuntime, path: &str) -> Result<(), OpenError> {
     let mut file = match small_file(rt, path) {
         Ok(Some(file)) => file,
         Ok(None) => return Ok(()),
-        Err(error) => return Err(refused(error)),
+        Err(error) => return Err(system_error(error)),
     };
     if !is_unmade(&file)? {
         return Ok(());
@@ -275,18 +275,18 @@ fn make(rt: &HostRuntime, path: &str) -> Result<(), OpenError> {
     match file.try_lock() {
         Ok(()) => {}
         Err(TryLockError::WouldBlock) => return Err(OpenError::Busy),
-        Err(TryLockError::Error(error)) => return Err(refused(error)),
+        Err(TryLockError::Error(error)) => return Err(system_error(error)),
     }
     // Before the lock another process may have written or replaced the file.
     if !is_unmade(&file)? || !is_at(rt, &file, path)? {
         return Ok(());
     }
     check_alone(rt, path)?;
-    begin(&mut file).map_err(refused)
+    write_first_page(&mut file).map_err(system_error)
 }
 
 // The regular file at a path.
-fn held(rt: &HostRuntime, path: &str) -> io::Result<File> {
+fn open_regular(rt: &HostRuntime, path: &str) -> io::Result<File> {
     if !fs::metadata(rt, path)?.is_file() {
         return Err(ErrorKind::Unsupported.into());
     }
@@ -296,7 +296,7 @@ fn held(rt: &HostRuntime, path: &str) -> io::Result<File> {
 // Makes what the kit's open left of a file that was removed meanwhile its owner's alone, and removes the empty log. The kit still
 // locks the file, behind which a log is opened, so no other process has this one.
 fn narrow(rt: &HostRuntime, path: &str) -> Result<(), OpenError> {
-    let file = held(rt, path)?;
+    let file = open_regular(rt, path)?;
     let log = format!(in rt.alloc(); "{path}-wal")?;
     if file.metadata()?.len() == 0 && fs::symlink_metadata(rt, log.as_str())?.len() == 0 {
         file.set_permissions(Permissions::from_mode(0o600))?;
@@ -308,7 +308,7 @@ fn narrow(rt: &HostRuntime, path: &str) -> Result<(), OpenError> {
 // Refuses a log of another owner than the file's, unless others may write the file too, and leaves it no right that the file has
 // not.
 fn check_log(rt: &HostRuntime, file: &File, path: &str) -> Result<(), OpenError> {
-    let log = held(rt, format!(in rt.alloc(); "{path}-wal")?.as_str())?;
+    let log = open_regular(rt, format!(in rt.alloc(); "{path}-wal")?.as_str())?;
     let (found, of_file) = (log.metadata()?, file.metadata()?);
     if found.uid() != of_file.uid() && of_file.mode() & 0o022 == 0 {
         return Err(OpenError::LogOfAnother);
@@ -327,7 +327,7 @@ fn resolve(rt: &HostRuntime, path: &str) -> Result<String, OpenError> {
             rt.alloc(),
             path,
         )?),
-        Err(error) => Err(refused(error)),
+        Err(error) => Err(system_error(error)),
     }
 }
 
@@ -345,7 +345,7 @@ pub(crate) fn open_path<T: Start>(
     let path = resolve(rt, path)?;
     let path = path.as_str();
     make(rt, path)?;
-    let held = held(rt, path)?;
+    let held = open_regular(rt, path)?;
     let files = sqlite_std_file::open(rt, path, start)?;
     // If the file was removed meanwhile, the kit's open has made one that all may read.
     if !is_at(rt, &held, path)? {
