@@ -28,14 +28,14 @@ time_text time = decimal (time / 1000000) ++ (codes "." ++ (six_places (time % 1
     ++ (codes " seconds" ++ 10 ∷ [])))
 
 -- a line if the machine was busy
-abbrev pub end_text : Bool → List ℕ
-end_text true = codes "the machine was busy: times may be too long" ++ 10 ∷ []
-end_text false = []
+abbrev pub busy_text : Bool → List ℕ
+busy_text true = codes "the machine was busy: times may be too long" ++ 10 ∷ []
+busy_text false = []
 
 -- costs and their time as lines
 abbrev pub lines_text : Found → ℕ → List ℕ
 lines_text found p = list_text found.choice.m_cost found.choice.t_cost p
-    ++ call_text found.choice.m_cost found.choice.t_cost p ++ time_text found.choice.time ++ end_text found.busy
+    ++ call_text found.choice.m_cost found.choice.t_cost p ++ time_text found.choice.time ++ busy_text found.busy
 
 -- costs and their time as a JSON object
 abbrev pub json_of : Found → ℕ → Json

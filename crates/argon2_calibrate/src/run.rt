@@ -3,7 +3,7 @@
 ghost use Rattle.std.specs.Prelude.{◌≡◌, ◌⊎◌, ◌++◌, ◌∷◌, [], ℕ, List, OnOk, Some};
 ghost use Rattle.std.specs.Io.KnownBytes.{Appends};
 ghost use Rattle.json.specs.Json.{document};
-ghost use Rattle.argon2_calibrate.specs.Answer.{PrintsCosts, end_text, json_of, lines_text};
+ghost use Rattle.argon2_calibrate.specs.Answer.{PrintsCosts, busy_text, json_of, lines_text};
 ghost use Rattle.argon2_calibrate.specs.Choice.{ArePossible};
 
 use crate::choice::Found;
@@ -92,14 +92,14 @@ fn write_lines<W: Write>(output: &mut W, found: Found, p: u32) -> Result<(), Fai
     writeln!(output, "m={m},t={t},p={p}")?;
     writeln!(output, "Params::new({m}, {t}, {p}, None)")?;
     writeln!(output, "{seconds}.{micros:06} seconds")?;
-    output.write_all(end(found.busy).as_bytes())?;
+    output.write_all(busy_line(found.busy).as_bytes())?;
     output.flush()?;
     Ok(())
 }
 
 // A line if the machine was busy.
-fn end(busy: bool) -> &'static str
-    ensures { result.now ≡ end_text busy }
+fn busy_line(busy: bool) -> &'static str
+    ensures { result.now ≡ busy_text busy }
 {
     if busy {
         "the machine was busy: times may be too long\n"

@@ -49,7 +49,7 @@ fn most_memory<S: Stopwatch, E: Write>(
     'halves: loop {
         let least = least_passes(options.min_t, m_cost);
         let is_least = m_cost < 16 * options.lanes;
-        match measured(stopwatch, errors, options, m_cost, least)? {
+        match measure(stopwatch, errors, options, m_cost, least)? {
             Some(choice) => {
                 busy |= choice.busy;
                 if is_least || choice.time <= options.target {
@@ -88,7 +88,7 @@ fn most_passes<S: Stopwatch, E: Write>(
         if next <= best.t_cost {
             break;
         }
-        let Some(trial) = measured(stopwatch, errors, options, first.m_cost, next)? else {
+        let Some(trial) = measure(stopwatch, errors, options, first.m_cost, next)? else {
             return Err(Failure::Memory(AllocError));
         };
         busy |= trial.busy;
@@ -108,7 +108,7 @@ fn most_passes<S: Stopwatch, E: Write>(
 }
 
 // Costs with how long a hash takes, which is written to `errors`, or none if the memory is refused.
-fn measured<S: Stopwatch, E: Write>(
+fn measure<S: Stopwatch, E: Write>(
     stopwatch: &mut S,
     errors: &mut E,
     options: Options,

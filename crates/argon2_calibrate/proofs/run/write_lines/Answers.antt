@@ -13,5 +13,6 @@ returns g c =
     let places = padded (c.args.found.choice.time % 1000000) in
     let costs = Appends-trans _ _ _ _ _ c.in_ok-writeln.ensures.bytes c.in_ok-writeln-2.ensures.bytes in
     let timed = Appends-trans _ _ _ _ _ costs (rw (c.laid_out.ensures, places) at c.in_ok-writeln-3.ensures.bytes) in
-    let ended = Appends-trans _ _ _ _ _ timed (rw (c.as_bytes.ensures.value, c.end.ensures) at c.in_ok-write_all.ensures.bytes) in
+    let ended = Appends-trans _ _ _ _ _ timed
+    (rw (c.as_bytes.ensures.value, c.busy_line.ensures) at c.in_ok-write_all.ensures.bytes) in
     Appends-kept _ _ _ _ ended c.in_ok-flush.ensures.bytes
