@@ -4,5 +4,5 @@ use Rattle.clap.specs.declared.error.kind.ErrorKind.{ErrorKind}
 use Rattle.clap.specs.declared.error.kind.ErrorKind.TheVariants.{DisplayHelp, DisplayVersion}
 
 -- the help or the version was asked for
-abbrev pub IsPage : ErrorKind → Type 0
-IsPage kind = (kind ≡ DisplayHelp) ⊎ (kind ≡ DisplayVersion)
+abbrev pub IsPageKind : ErrorKind → Type 0
+IsPageKind kind = (kind ≡ DisplayHelp) ⊎ (kind ≡ DisplayVersion)

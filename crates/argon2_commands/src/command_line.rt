@@ -4,7 +4,7 @@ ghost use Rattle.std.specs.Prelude.{◌≡◌, ◌⊎◌, IfErr};
 ghost use Rattle.std.specs.Io.KnownBytes.{Keeps};
 ghost use Rattle.clap.specs.Words.{kind_of};
 ghost use Rattle.clap.specs.declared.error.kind.ErrorKind.TheVariants.{OutOfMemory};
-ghost use Rattle.argon2_commands.specs.Pages.{IsPage};
+ghost use Rattle.argon2_commands.specs.Pages.{IsPageKind};
 ghost use Rattle.argon2_commands.specs.declared.matches.Refusal.TheVariants.{Memory};
 
 use crate::VERSION;
@@ -216,9 +216,9 @@ impl Kind {
 
 // Writes a page that the words ask for to `output`, or what is wrong with the words to `errors`, and returns the status.
 fn answer<W: Write, E: Write>(program: &str, error: &Error, output: &mut W, errors: &mut E) -> u8
-    ensures page { IsPage (kind_of error.now) → (result ≡ 0) ⊎ (result ≡ 3) }
+    ensures page { IsPageKind (kind_of error.now) → (result ≡ 0) ⊎ (result ≡ 3) }
     ensures memory { kind_of error.now ≡ OutOfMemory → result ≡ 3 }
-    ensures wrong { ¬ IsPage (kind_of error.now) → ¬ (kind_of error.now ≡ OutOfMemory) →
+    ensures wrong { ¬ IsPageKind (kind_of error.now) → ¬ (kind_of error.now ≡ OutOfMemory) →
         result ≡ 2 }
     ensures status { (result ≡ 0) ⊎ (result ≡ 2) ⊎ (result ≡ 3) }
     ensures unwritten { result ≡ 2 → Keeps (W.contents output.old) (W.contents output.new) }
