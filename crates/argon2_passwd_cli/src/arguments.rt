@@ -136,7 +136,7 @@ fn command<'a>(alloc: Global, matches: &Matches<'a>) -> Result<Command<'a>, Refu
     };
     match action(import, words.as_slice()) {
         Some(action) => Ok(Command { options, action }),
-        None => Err(Refusal::Words(unknown(alloc, words.as_slice())?)),
+        None => Err(Refusal::Words(no_command_text(alloc, words.as_slice())?)),
     }
 }
 
@@ -176,13 +176,13 @@ fn bound_asked(alloc: Global, matches: &Matches<'_>) -> Result<Option<Bound>, Re
 }
 
 // What is wrong with words that are no command.
-fn unknown(alloc: Global, words: &[&str]) -> Result<String, AllocError> {
+fn no_command_text(alloc: Global, words: &[&str]) -> Result<String, AllocError> {
     let mut message = String::from_str(alloc, "no command has this form:")?;
     for word in words {
         message.push(' ')?;
         message.push_str(word)?;
     }
-    if let Some(similar) = similar(alloc, words)? {
+    if let Some(similar) = similar_command(alloc, words)? {
         message.push_str("\n\n  tip: a similar command exists: '")?;
         message.push_str(similar)?;
         message.push('\'')?;
@@ -191,7 +191,7 @@ fn unknown(alloc: Global, words: &[&str]) -> Result<String, AllocError> {
 }
 
 // A command that one of the first two words may stand for, by at most one edit for three bytes, unless one is a command.
-fn similar(alloc: Global, words: &[&str]) -> Result<Option<&'static str>, AllocError> {
+fn similar_command(alloc: Global, words: &[&str]) -> Result<Option<&'static str>, AllocError> {
     let mut found = None;
     for word in words.iter().take(2) {
         for name in COMMANDS {
