@@ -6,7 +6,7 @@ use Rattle.std.proofs.lemmas.Result.{on_ok_weaker}
 use Rattle.std.proofs.lemmas.List.Sorted.{Contains-permutation, IsPermutation-map, IsPermutation-sym}
 use Rattle.sqlite_trees.proofs.ListLemmas.{along_permutation}
 use Rattle.argon2_rows.proofs.RowLemmas.{changed_apart, get-at, get-changed}
-use Rattle.argon2_rows.proofs.TableLemmas.{Settled, cause_map, changes_of, leaves_quiet, quiet_then, taken_back}
+use Rattle.argon2_rows.proofs.TableLemmas.{IsSettled, cause_map, changes_of, leaves_quiet, quiet_then, taken_back}
 
 pub add_last : (es : List (List ℕ × List ℕ)) (before mid after : Texts) (e : List ℕ × List ℕ) → AddsAll before es mid
     → get mid e.0 ≡ None → after ≡ changed mid e.0 (Some e.1) → AddsAll before (es ++ e ∷ []) after
@@ -45,7 +45,7 @@ module _ {S : Type 0} (g : Ghosts S) where
       (after, λ clean. grind arith, on_ok_weaker done (λ f clean. moves (f clean)) all, search (arith, cause_map))
 
   -- names that are not all written are taken back
-  pub undone : (old mid new : S) {before after : Texts} (es : List (List ℕ × List ℕ)) (error : AddError) → Settled g
+  pub undone : (old mid new : S) {before after : Texts} (es : List (List ℕ × List ℕ)) (error : AddError) → IsSettled g
       → (IsHonest g old → IsOpen g old) → HasRows g old before
       → Writes g old mid before after (Any IsLong es) (written_of (Err error))
       → (IsHonest g mid → AddsEach before es after (Err error))
@@ -71,7 +71,7 @@ module _ {S : Type 0} (g : Ghosts S) where
     written_later new es (Err (Taken k)) is_open wrote = search arith
 
     -- names are not written, since taking others back has closed the file
-    pub unwritten : (es : List (List ℕ × List ℕ)) → Settled g → (IsHonest g old → IsOpen g old) → IsKept g old before
+    pub unwritten : (es : List (List ℕ × List ℕ)) → IsSettled g → (IsHonest g old → IsOpen g old) → IsKept g old before
         → (IsHonest g mid → (g.view mid).is_open ≡ false) → AddsNames g old mid before es (Err Io)
     unwritten es settled was_open has shut =
         let earlier : IsHonest g mid → IsHonest g old = λ clean. omega (arith, clean, quiet.clean) in

@@ -21,11 +21,11 @@ on_both W r p q then = grind arith
 -- ---- what a crash leaves
 
 -- while a store is open, a crash leaves its last commit
-abbrev pub Settled : {S : Type 0} → Ghosts S → Type 0
-Settled {S} g = (s : S) (db : Trees) → IsOpen g s → g.recovers s db → db ≡ (g.view s).committed
+abbrev pub IsSettled : {S : Type 0} → Ghosts S → Type 0
+IsSettled {S} g = (s : S) (db : Trees) → IsOpen g s → g.recovers s db → db ≡ (g.view s).committed
 
 -- a crash leaves the names after a call that changed nothing
-pub leaves_quiet : {S : Type 0} (g : Ghosts S) → Settled g → (old new : S) (names : Texts) → IsKept g old names
+pub leaves_quiet : {S : Type 0} (g : Ghosts S) → IsSettled g → (old new : S) (names : Texts) → IsKept g old names
     → StaysQuiet g old new → IsHonest g new → IsOpen g old → CrashLeaves g new (λ left. left ≡ names)
 leaves_quiet g settled old new names kept quiet clean is_open db found =
     let was : IsHonest g old = omega (arith, clean, quiet.clean) in (names, search arith, refl)
@@ -95,7 +95,7 @@ module _ {S : Type 0} {g : Ghosts S} where
   has_either {after = after} (Ok x) change = (after, change.kept)
   has_either {before = before} (Err e) change = (before, change.kept)
 
-  module _ (settled : Settled g) {old : S} (was_open : IsHonest g old → IsOpen g old) where
+  module _ (settled : IsSettled g) {old : S} (was_open : IsHonest g old → IsOpen g old) where
     -- what was written is taken back
     pub taken_back : {mid new : S} {before after : Texts} {long : Type 0} {r : Result (Unit {0}) StoreError}
         → HasRows g old before → Writes g old mid before after long r

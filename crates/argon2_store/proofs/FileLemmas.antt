@@ -4,7 +4,7 @@ use Rattle.argon2_store.proofs.Imports.{IsTrue, get, Any, HasFailed, ◌↔◌, 
 use Rattle.argon2_store.proofs.Imports.{quiet_itself, StoreError, Ghosts, Texts, IfOk, IfSome, AddsNames, on_ok_weaker, Answers, error_of, IsClosed, IsErrorAt, Makes, Serves, AddsAll}
 use Rattle.argon2_store.proofs.Imports.{IsFirstTaken, Stays, database_of, read_of, call_error, Changes, IsHonest, IsLong, IsOpen, CrashLeaves, StaysQuiet, changed, AccountFile, FileError}
 use Rattle.argon2_store.proofs.Imports.{Closed, NameTaken, OutOfMemory, AddsShortName, NamedEdit, adding, named_edit, IsTooLong, additions, gives, is_refusal, names_after, name_of, refusal, HasCause}
-use Rattle.argon2_store.proofs.Imports.{HasFailedBy, HasNames, NamesStay, lines_by, read_by, TellsFault, both_ways, changed_back, Keeps, Settled, err_is, shape_of, leaves_quiet, on_all}
+use Rattle.argon2_store.proofs.Imports.{HasFailedBy, HasNames, NamesStay, lines_by, read_by, TellsFault, both_ways, changed_back, Keeps, IsSettled, err_is, shape_of, leaves_quiet, on_all}
 use Rattle.argon2_rows.specs.declared.view.Written.{Written}
 use Rattle.argon2_store.specs.declared.edit.Edit.{Edit}
 use Rattle.sqlite_trees.specs.View.{HasCause as Cause, View}
@@ -57,7 +57,7 @@ taken_made (e ∷ es) before (suc k) (mid, (none, adds), within, has) =
 
 -- ---- a file whose test says so is closed, or is not
 
-module _ {S : Type 0} {g : Ghosts S} (settled : Settled g) (old : AccountFile S g) {b : Bool}
+module _ {S : Type 0} {g : Ghosts S} (settled : IsSettled g) (old : AccountFile S g) {b : Bool}
     (tests : IsTrusted old → IsTrue b ↔ IsClosed old) where
   pub shut_out : b ≡ true → NamesStay (Some Closed) old old
   shut_out shut names has = search (arith, leaves_quiet, quiet_itself)

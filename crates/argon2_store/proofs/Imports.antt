@@ -34,8 +34,8 @@ pub use Rattle.argon2_rows.specs.Rows.{AreLines, AreTexts, rows_of}
 pub use Rattle.argon2_rows.specs.Table.{doubt, IsKept, StoreError, Index, Ghosts, Trees, catalog_tree, IsClean, plain}
 pub use Rattle.argon2_rows.specs.Names.{AddsAll, IsFirstTaken, Texts, changed, entry_of}
 pub use Rattle.argon2_rows.proofs.RowLemmas.{rows_of-once, get-at, changed_back, texts_changed}
-pub use Rattle.argon2_rows.proofs.TableLemmas.{Settled, Keeps, err_is, leaves_quiet, on_all, quiet_itself, has_same, some_kept, changes_of, has_either, reads_keep, shape_of, taken_back}
+pub use Rattle.argon2_rows.proofs.TableLemmas.{IsSettled, Keeps, err_is, leaves_quiet, on_all, quiet_itself, has_same, some_kept, changes_of, has_either, reads_keep, shape_of, taken_back}
 pub use Rattle.argon2_store.specs.AccountFile.{Answers, IsClosed, IsErrorAt, Makes, Serves, Stays, error_of, database_of, HasNames, IsReady, HasCause, HasFailedBy, NamesStay, AccountFile}
 pub use Rattle.argon2_store.specs.Edits.{AddsShortName, IsTooLong, NamedEdit, adding, additions, gives, left_by, name_of, named_edit, names_after, refusal}
 pub use Rattle.argon2_store.specs.Errors.{log_error, call_error, is_refusal, read_of, IsOfDatabase, lines_by, read_by, FileError, Closed, NameTaken, OutOfMemory, OpenError}
-pub use Rattle.argon2_store.specs.Runs.{AreEventsOf, AreMade, Did, Does, EndsRun, FileCall, FileEvent, FileRun, IsFoundAfter, IsLate, IsLateOf, IsShutOut, events_of, makes, over_file, reads, text_by}
+pub use Rattle.argon2_store.specs.Runs.{AreEventsOf, AreMade, DoAll, Does, EndsRun, FileCall, FileEvent, FileRun, IsFoundAfter, IsLate, IsLateOf, IsShutOut, events_of, makes, over_file, reads, text_by}

@@ -148,20 +148,20 @@ begun size schema img pages large recs file list (inr bare) =
     no_table size schema pages list file (subst₂ (λ n p. rows_at n (in_use n p) Table 1 ≡ []) (sym sized) (sym one) bare.3)
 
 -- an open finds these rows alone, and the files begin as a database does unless these are none
-abbrev Near : List Row → Image → Type 0
-Near first img = ((rows : List Row) → IsFoundIn 4096 img rows → rows ≡ first)
+abbrev IsNear : List Row → Image → Type 0
+IsNear first img = ((rows : List Row) → IsFoundIn 4096 img rows → rows ≡ first)
     × (¬ (first ≡ []) → (q : PageMap) → raw.Recovers 4096 img q → AreWhole 4096 q → ¬ ¬ (begin q ≡ 83))
 
 same_rows : (a b : List Row) → IsProp (a ≡ b)
 same_rows = Coded-set (coded_list row.the_row.coded)
 
-Near-prop : (first : List Row) (img : Image) → IsProp (Near first img)
-Near-prop first img = hlevel same_rows
+IsNear-prop : (first : List Row) (img : Image) → IsProp (IsNear first img)
+IsNear-prop first img = hlevel same_rows
 
-near_stable : (first : List Row) (img : Image) → ¬ ¬ Near first img → Near first img
+near_stable : (first : List Row) (img : Image) → ¬ ¬ IsNear first img → IsNear first img
 near_stable first img h = (λ rows found. rows_stable rows first (grind arith), grind arith)
 
-near_rows : (img : Image) (first : List Row) → MayHave img first → Near first img
+near_rows : (img : Image) (first : List Row) → MayHave img first → IsNear first img
 near_rows img first (inl (size, schema, pages, allowed, recs, file, list, is)) =
     let large : 504 ≤ size = let few : reserved size ≤ 8 = grind arith in omega (arith, allowed.0) in (
       λ rows found. elim found [
@@ -180,9 +180,9 @@ near_rows img first (inr (unbegun, none)) = (
   search,
 )
 
-module _ (first : List Row) (old new : Image) (near : Near first old) where
+module _ (first : List Row) (old new : Image) (near : IsNear first old) where
   -- the old files recover to these pages
-  near_read : RecoversAs 4096 old new → (q : PageMap) → raw.Recovers 4096 old q → AreWhole 4096 q → Near first new
+  near_read : RecoversAs 4096 old new → (q : PageMap) → raw.Recovers 4096 old q → AreWhole 4096 q → IsNear first new
   near_read same q was full = (
     λ rows found. elim found [
       | inl there ↦ near.0 rows (inl (there.0, carried_back old new same there.0 there.1 q was, there.2, there.3, there.4))
@@ -195,16 +195,16 @@ module _ (first : List Row) (old new : Image) (near : Near first old) where
     λ some p found whole never. near.1 some q was full (λ is. never (ap begin (raw_once 4096 new p q found (same q was)) ∙ is)),
   )
 
-  near_after : StandsFor (λ image. image ≡ old) old new → Near first new
-  near_after (inl is) = subst (Near first) (sym is) near
+  near_after : StandsFor (λ image. image ≡ old) old new → IsNear first new
+  near_after (inl is) = subst (IsNear first) (sym is) near
   near_after (inr (inl (same, unread))) = near_stable first new (λ never.
-      never (subst (Near first) (sym (unread (λ q was full. never (near_read same q was full)))) near))
-  near_after (inr (inr (rows, before, after))) = ∥∥₁_elim after (Near-prop first new) (λ may.
-      subst (λ r. Near r new) (∥∥₁_elim before (same_rows rows first) (near.0 rows)) (near_rows new rows may))
+      never (subst (IsNear first) (sym (unread (λ q was full. never (near_read same q was full)))) near))
+  near_after (inr (inr (rows, before, after))) = ∥∥₁_elim after (IsNear-prop first new) (λ may.
+      subst (λ r. IsNear r new) (∥∥₁_elim before (same_rows rows first) (near.0 rows)) (near_rows new rows may))
 
 near_opens : (first : List Row) (opens : List Image) (before left : Image) → IsAfterOpens opens before left
-    → Near first before → Near first left
-near_opens first [] before left is near = subst (Near first) (sym is) near
+    → IsNear first before → IsNear first left
+near_opens first [] before left is near = subst (IsNear first) (sym is) near
 near_opens first (found ∷ older) before left (earlier, stands) near =
     near_after first found left (near_opens first older before found earlier near) stands
 
@@ -221,10 +221,10 @@ next_open it listed before may opens left after found holds = ∥∥₁_map (lef
 -- ---- one more open that failed
 
 -- what an open finds is the names of the table, or none if there is no table yet, and it finds no other rows in the same files
-pub near_found : (img : Image) (rows : List Row) → IsFoundIn 4096 img rows → Near rows img
-near_found img rows (inl (pages, recs, file, is, one)) = ∥∥₁_elim file (Near-prop rows img) (λ file.
+pub near_found : (img : Image) (rows : List Row) → IsFoundIn 4096 img rows → IsNear rows img
+near_found img rows (inl (pages, recs, file, is, one)) = ∥∥₁_elim file (IsNear-prop rows img) (λ file.
     near_rows img rows (inl (4096, account ∷ [], pages, (omega arith, omega arith, refl, refl), recs, file, refl, is)))
-near_found img rows (inr (none, is)) = ∥∥₁_elim none (Near-prop rows img) (λ unbegun. near_rows img rows (inr (unbegun, is)))
+near_found img rows (inr (none, is)) = ∥∥₁_elim none (IsNear-prop rows img) (λ unbegun. near_rows img rows (inr (unbegun, is)))
 
 -- files that hold names soundly: an open finds the rows of these
 sound_rows : (img : Image) (names : Texts) → HoldSoundly img names → (rows : List Row) → IsFoundIn 4096 img rows → rows

@@ -1,9 +1,9 @@
 -- What calls make of a file, and what an open finds after them.
 use Rattle.argon2_store.proofs.Imports.{arith, ◌≡◌, ◌⊎◌, ℕ, List, [], ◌∷◌, ◌++◌, Result, Ok, Err, inl, inr, refl, sym, subst, ◌∙◌, append_assoc, cases_Bool, empty, get, ∥∥₁_elim}
 use Rattle.argon2_store.proofs.Imports.{∥∥₁_map, flat_map, SeenMayStay, settled_at, FileStore, Trees, Ghosts, bytes_eq-Decides, Answers, Texts, IsClosed, database_of, NamedEdit}
-use Rattle.argon2_store.proofs.Imports.{gives, left_by, names_after, name_of, is_refusal, AreEventsOf, AreMade, Did, Does, EndsRun, FileEvent, FileCall, IsFoundAfter, IsLate}
+use Rattle.argon2_store.proofs.Imports.{gives, left_by, names_after, name_of, is_refusal, AreEventsOf, AreMade, DoAll, Does, EndsRun, FileEvent, FileCall, IsFoundAfter, IsLate}
 use Rattle.argon2_store.proofs.Imports.{IsLateOf, IsShutOut, FileRun, events_of, makes, text_by, over_file, reads, IsHonest, IsOpen, CrashLeaves, AccountFile, FileError, HasNames, IsReady}
-use Rattle.argon2_store.proofs.Imports.{Settled, IsTableOf, get-at, rows_of-once, get-empty}
+use Rattle.argon2_store.proofs.Imports.{IsSettled, IsTableOf, get-at, rows_of-once, get-empty}
 use Rattle.argon2_store.proofs.NextOpenLemmas.{next_open}
 use Rattle.argon2_store.proofs.OpenLemmas.{left_table}
 use Rattle.sqlite_disk.specs.declared.Disk as disk
@@ -41,7 +41,7 @@ its_events before after edits (Ok x) is = (before, refl, is)
 its_events before after edits (Err e) is =
     elim (cases_Bool (is_refusal e)) [ inl refused ↦ rw refused (before, refl, is) | inr of_file ↦ rw of_file is.1 ]
 
-module _ {S : Type 0} {g : Ghosts S} (settled : Settled g) (first : Texts) where
+module _ {S : Type 0} {g : Ghosts S} (settled : IsSettled g) (first : Texts) where
   -- what these events made of the first names, and what a crash leaves: that, or some that come late too
   pub record Reached (events : List FileEvent) (Late : List FileEvent → Type 0) (file : AccountFile S g) : Type 0 where
     pub names : Texts
@@ -56,8 +56,8 @@ module _ {S : Type 0} {g : Ghosts S} (settled : Settled g) (first : Texts) where
     events = flat_map events_of calls
 
     -- nothing comes late, or this call, or what came late of those before it, since it is shut out
-    abbrev Now : (List FileEvent → Type 0) → Type 0 → List FileEvent → Type 0
-    Now Late Shut late = (late ≡ []) ⊎ (Late late ⊎ (Shut × IsLate calls late))
+    abbrev IsLateNow : (List FileEvent → Type 0) → Type 0 → List FileEvent → Type 0
+    IsLateNow Late Shut late = (late ≡ []) ⊎ (Late late ⊎ (Shut × IsLate calls late))
 
     -- the names after the call, made by newer events, and a crash leaves them, or with some events that come late
     reaches : (Late : List FileEvent → Type 0) (Shut : Type 0) (newer : List FileEvent) (after : Texts)
@@ -67,7 +67,7 @@ module _ {S : Type 0} {g : Ghosts S} (settled : Settled g) (first : Texts) where
         (λ left. (left ≡ after) ⊎ ((late : List FileEvent) × Late late × AreMade after late left)))
         → (IsHonest g (database_of new) → IsClosed old → Shut × (newer ≡ [])
         × ((db : Trees) → g.recovers (database_of new) db → g.recovers (database_of old) db))
-        → Reached (newer ++ events) (Now Late Shut) new
+        → Reached (newer ++ events) (IsLateNow Late Shut) new
     reaches Late Shut newer after has honest step crash closed =
         let run = λ (clean : IsHonest g (database_of new)).
         run_then first before.names after newer events (before.run (honest clean)) (step clean) in
@@ -91,7 +91,7 @@ module _ {S : Type 0} {g : Ghosts S} (settled : Settled g) (first : Texts) where
         }
 
     pub one_more : (call : FileCall) → Does call old new
-        → Reached (events_of call ++ events) (Now (IsLateOf call) (IsShutOut call)) new
+        → Reached (events_of call ++ events) (IsLateNow (IsLateOf call) (IsShutOut call)) new
     one_more (makes edits result) serve =
         let (after, does) = serve before.names before.has in
         reaches (IsLateOf (makes edits result)) _ _ after does.has does.honest
@@ -112,7 +112,7 @@ module _ {S : Type 0} {g : Ghosts S} (settled : Settled g) (first : Texts) where
         (λ clean is_closed. let shut = does.closed in search arith)
 
   pub reached : (begun : AccountFile S g) → IsReady first begun → (calls : List FileCall) (last : AccountFile S g)
-      → Did calls begun last → Reached (flat_map events_of calls) (IsLate calls) last
+      → DoAll calls begun last → Reached (flat_map events_of calls) (IsLate calls) last
   reached begun ready [] last is = subst (Reached [] (IsLate [])) (sym is) (record {
     names = first;
     has = ready.has;

@@ -64,9 +64,9 @@ module _ {S : Type 0} {g : Ghosts S} where
   Does (reads error) old new = NamesStay error old new
 
   -- calls, the newest first, took the old file to the new one
-  abbrev pub Did : List FileCall → AccountFile S g → AccountFile S g → Type 0
-  Did [] old new = new ≡ old
-  Did (call ∷ older) old new = (mid : AccountFile S g) × Did older old mid × Does call mid new
+  abbrev pub DoAll : List FileCall → AccountFile S g → AccountFile S g → Type 0
+  DoAll [] old new = new ≡ old
+  DoAll (call ∷ older) old new = (mid : AccountFile S g) × DoAll older old mid × Does call mid new
 
 -- a run: the names that its open found, its calls, the newest first, and what it left of the two files
 pub record FileRun : Type 0 where
@@ -102,7 +102,7 @@ over_file = record {
 -- Whatever calls led to the file, a crash leaves a table of names now, and an open finds these.
 abbrev pub EndsRun : {D : Type 0} {g : disk.Ghosts D} → AccountFile (FileStore D g) over_file → Type 0
 EndsRun last = (names : Texts) (first : AccountFile _ over_file) (calls : List FileCall) (left : Image) →
-    IsReady names first → Did calls first last → IsHonest over_file (database_of last)
+    IsReady names first → DoAll calls first last → IsHonest over_file (database_of last)
     → (state (database_of last)).may_leave left → let run : FileRun = record { found = names; calls = calls; left = left } in
     IsFound run × HasLeft run
 
