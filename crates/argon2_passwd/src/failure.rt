@@ -35,6 +35,15 @@ pub enum Flaw {
     Taken,
 }
 
+/// One of the two secrets.
+#[derive(Clone, Copy, Debug)]
+pub enum SecretKind {
+    /// The one under which texts are made.
+    Current,
+    /// The one under which they were made before.
+    Old,
+}
+
 /// Why the program fails, with the text that it prints.
 #[derive(Debug, Drop, Error)]
 pub enum Failure {
@@ -74,12 +83,12 @@ pub enum Failure {
     /// A name in the file has a line break or a colon, and its text was to follow.
     #[error("a name has a line break or a colon")]
     BrokenLine,
-    /// The file with the secret, or with the old one if this is true, can't be read.
+    /// The file with this secret can't be read.
     #[error("the secret's file can't be read")]
-    Secret(bool),
-    /// The file with the secret is empty or too long, or the one with the old one is too long.
+    Secret(SecretKind),
+    /// The file with this secret is empty or too long. An old one may be empty.
     #[error("a secret has 1 to 4096 bytes, and an old one 0 to 4096")]
-    SecretLength(bool),
+    SecretLength(SecretKind),
     /// The system gives no random bytes.
     #[error("the system gives no random bytes")]
     Random,

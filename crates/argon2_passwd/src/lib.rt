@@ -11,6 +11,6 @@ mod passwords;
 pub mod run;
 
 pub use command::{Action, Command, EditTask, Task};
-pub use failure::{Failure, Flaw};
+pub use failure::{Failure, Flaw, SecretKind};
 pub use options::Options;
 pub use outside::{IfAbsent, News, Outside, RowCheck};

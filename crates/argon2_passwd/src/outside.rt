@@ -1,6 +1,6 @@
 //! Where the program finds the secret, random bytes and accounts.
 
-use crate::failure::Failure;
+use crate::failure::{Failure, SecretKind};
 use argon2_store::AccountFile;
 use sqlite_trees::store::Store;
 
@@ -62,7 +62,7 @@ pub trait Outside {
     ///
     /// # Errors
     /// The file can't be read, or has not 1 to 4096 bytes; an old one may be empty.
-    fn secret(&self, path: &str, is_old: bool) -> Result<Vec<u8>, Failure>
+    fn secret(&self, path: &str, kind: SecretKind) -> Result<Vec<u8>, Failure>
         ensures held { IfOk result (λ secret. holds path.now secret.items) }
         ensures failed { IfErr result (λ failure. status_of failure ≡ 3) };
 

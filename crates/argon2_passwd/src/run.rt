@@ -5,7 +5,7 @@ ghost use Rattle.std.specs.Prelude.{◌≡◌, ◌≤◌, ◌⊎◌, ◌++◌, �
 ghost use Rattle.argon2_passwd.specs.Answers.{Appends, AppendsFront, UsesNoFile, IsDenialOf, EndsCommand, IsNewText, IsPolicy, IsSalt, IsSecret, WritesErrors, IsNotNew, Outcome, Params, WritesLine, denial_line, news_of, news_text, next_salt, option_map, phc_of, policy_by, policy_value, status_by, status_of};
 
 use crate::command::{Action, Command, EditTask, Task};
-use crate::failure::{Failure, Flaw};
+use crate::failure::{Failure, Flaw, SecretKind};
 use crate::options::Options;
 use crate::outside::{News, Outside};
 use crate::passwords::{read_new_password, read_password};
@@ -133,8 +133,10 @@ fn is_hidden(command: &Command<'_>, failure: &Failure) -> bool
 // What a failure is of: the path of a file that fails, or the name or the word of a text that no password opens.
 fn subject<'a>(command: &Command<'a>, failure: &Failure) -> Option<&'a str> {
     match failure {
-        Failure::Secret(false) | Failure::SecretLength(false) => command.options.secret_file,
-        Failure::Secret(true) | Failure::SecretLength(true) => command.options.old_secret_file,
+        Failure::Secret(kind) | Failure::SecretLength(kind) => match kind {
+            SecretKind::Current => command.options.secret_file,
+            SecretKind::Old => command.options.old_secret_file,
+        },
         Failure::File(error) if error.is_refusal() => None,
         Failure::Unfit(_) | Failure::Unopened(_) | Failure::File(_) | Failure::BrokenLine => {
             match command.action {
@@ -165,8 +167,8 @@ fn answer<P: Outside, R: BufRead, W: Write>(
         (W.contents output.new) (P.closed outside.new) }
 {
     let options = &command.options;
-    let current = secret(outside, options.secret_file, false)?;
-    let old = secret(outside, options.old_secret_file, true)?;
+    let current = secret(outside, options.secret_file, SecretKind::Current)?;
+    let old = secret(outside, options.old_secret_file, SecretKind::Old)?;
     let policy = policy(alloc, options, &current, &old)?;
     accounts::serve(alloc, outside, &policy, command.action, input, output)
 }
@@ -225,14 +227,14 @@ fn check<P: Outside, R: BufRead, W: Write>(
 fn secret<P: Outside>(
     outside: &P,
     path: Option<&str>,
-    is_old: bool,
+    kind: SecretKind,
 ) -> Result<Option<Vec<u8>>, Failure>
     ensures ok { IfOk result (λ secret. IsSecret P.holds path.entry (option_map vec_items secret)) }
     ensures err { IfErr result (λ failure. status_of failure ≡ 3) }
 {
     match path {
         None => Ok(None),
-        Some(path) => Ok(Some(outside.secret(path, is_old)?)),
+        Some(path) => Ok(Some(outside.secret(path, kind)?)),
     }
 }
 
@@ -254,7 +256,7 @@ fn policy<'key>(
         Some(secret) => secret.as_slice(),
     };
     let Ok(argon2) = Argon2::new_with_secret(secret, algorithm, version, options.params) else {
-        return Err(Failure::SecretLength(false));
+        return Err(Failure::SecretLength(SecretKind::Current));
     };
     let Ok(policy) = Policy::new(alloc, argon2, options.bound()) else {
         return Err(Failure::Params);
@@ -263,7 +265,7 @@ fn policy<'key>(
         None => Ok(policy),
         Some(old) => policy
             .with_old_secret(old.as_slice())
-            .or(Err(Failure::SecretLength(true))),
+            .or(Err(Failure::SecretLength(SecretKind::Old))),
     }
 }
 

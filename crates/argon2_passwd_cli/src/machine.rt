@@ -1,6 +1,6 @@
 //! The machine that the program runs on.
 
-use argon2_passwd::{Failure, IfAbsent, News, Outside, RowCheck};
+use argon2_passwd::{Failure, IfAbsent, News, Outside, RowCheck, SecretKind};
 use argon2_store::{AccountFile, AccountsAt, OpenError};
 use sqlite_std_file::{FileFrom, Wary};
 use sqlite_store::FileStore;
@@ -122,20 +122,20 @@ impl Outside for Machine<'_> {
 
     ghost news = { λ machine. machine.news };
 
-    fn secret(&self, path: &str, is_old: bool) -> Result<Vec<u8>, Failure> {
+    fn secret(&self, path: &str, kind: SecretKind) -> Result<Vec<u8>, Failure> {
         let mut secret = Vec::new(self.rt.alloc());
-        let file = fs::open(self.rt, path).or(Err(Failure::Secret(is_old)))?;
+        let file = fs::open(self.rt, path).or(Err(Failure::Secret(kind)))?;
         match file
             .take(LONGEST_SECRET as u64 + 1)
             .read_to_end(&mut secret)
         {
             Ok(_) => {}
             Err(e) if e.kind() == ErrorKind::OutOfMemory => return Err(Failure::from(AllocError)),
-            Err(_) => return Err(Failure::Secret(is_old)),
+            Err(_) => return Err(Failure::Secret(kind)),
         }
-        let is_missing = secret.is_empty() && !is_old;
+        let is_missing = secret.is_empty() && matches!(kind, SecretKind::Current);
         if is_missing || secret.len() > LONGEST_SECRET {
-            return Err(Failure::SecretLength(is_old));
+            return Err(Failure::SecretLength(kind));
         }
         Ok(secret)
     }
