@@ -50,7 +50,7 @@ fn is_werkzeug(line: &[u8]) -> bool
 fn has_numbers(text: &[u8]) -> bool
     ensures { result ≡ has_numbers text.now }
 {
-    let end = first(text, b'$');
+    let end = position_or_len(text, b'$');
     end < text.len() && text[0].is_ascii_digit() && are_numbers(&text[..end])
 }
 
@@ -85,7 +85,7 @@ fn field_end(line: &[u8], separator: u8) -> usize
     if begins_any(line, &["\""]) {
         quoted_end(line, separator, false)
     } else {
-        first(line, separator)
+        position_or_len(line, separator)
     }
 }
 
@@ -116,7 +116,7 @@ fn strip_quotes(field: &[u8]) -> &[u8]
 }
 
 // The index of the first separator, or the length if there is none.
-fn first(bytes: &[u8], separator: u8) -> usize
+fn position_or_len(bytes: &[u8], separator: u8) -> usize
     ensures value { result ≡ position_or_len (λ byte. byte == separator) bytes.now }
     ensures max { result ≤ length bytes.now }
 {

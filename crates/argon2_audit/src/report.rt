@@ -26,7 +26,7 @@ pub struct Place<'a> {
 
 impl Place<'_> {
     /// The place of the line with this number of all. This place is behind the lines of the files before.
-    pub fn on(self, line: u64) -> Self {
+    pub fn at_line(self, line: u64) -> Self {
         Place {
             file: self.file,
             line: line.saturating_sub(self.line),
@@ -209,7 +209,7 @@ fn add_remarks<S: Remarks>(
 /// no text of Argon2 are written only if there are such lines.
 pub fn write_table<W: Write>(output: &mut W, session: &Session) -> io::Result<()> {
     let tally = &session.tally;
-    row(output, "lines", tally.lines)?;
+    write_count(output, "lines", tally.lines)?;
     for (name, class, is_written) in [
         ("sound", Class::Sound, true),
         ("below the policy", Class::Below, true),
@@ -224,16 +224,16 @@ pub fn write_table<W: Write>(output: &mut W, session: &Session) -> io::Result<()
     ] {
         let lines = tally.count(class);
         if is_written || lines > 0 {
-            row(output, name, lines)?;
+            write_count(output, name, lines)?;
         }
     }
     for (scheme, lines) in session.seen.schemes.iter() {
         writeln!(output, "  {:<18}{lines:>12}", scheme.name())?;
     }
-    row(output, "short salts", tally.short_salts)?;
-    row(output, "equal salts", tally.equal_salts)?;
+    write_count(output, "short salts", tally.short_salts)?;
+    write_count(output, "equal salts", tally.equal_salts)?;
     if tally.other_keys > 0 {
-        row(output, "other keys", tally.other_keys)?;
+        write_count(output, "other keys", tally.other_keys)?;
     }
     if !session.seen.kinds.is_empty() {
         writeln!(output, "{KINDS}")?;
@@ -250,6 +250,6 @@ pub fn write_table<W: Write>(output: &mut W, session: &Session) -> io::Result<()
 }
 
 // Writes a count as a line.
-fn row<W: Write>(output: &mut W, name: &str, lines: u64) -> io::Result<()> {
+fn write_count<W: Write>(output: &mut W, name: &str, lines: u64) -> io::Result<()> {
     writeln!(output, "{name:<20}{lines:>12}")
 }

@@ -146,7 +146,7 @@ impl Session {
         );
         remark_on(
             remarks,
-            file.on(self.tally.lines),
+            file.at_line(self.tally.lines),
             &finding,
             &options,
             is_equal,

@@ -4,7 +4,7 @@ use Rattle.std.specs.List.{position_or_len}
 use Rattle.std.proofs.lemmas.Bool.{false_from_ne_true}
 use Rattle.std.proofs.lemmas.List.Sums.{position_or_len_is}
 use Rattle.memchr.specs.Find.{IsFirstByte}
-use Rattle.argon2_audit.proofs.field.first.Goals as goal
+use Rattle.argon2_audit.proofs.field.position_or_len.Goals as goal
 
 -- the index of the first byte that passes, or the length
 first_place : (test : ℕ → Bool) (bytes : List ℕ) (found : Option ℕ) → IsFirstByte test bytes found
