@@ -9,7 +9,7 @@
 
 use crate::context::Contexts;
 use crate::drawn::Drawn;
-use crate::line::{Line, halves};
+use crate::line::{Line, split_word};
 use argon2::Argon2;
 use argon2::bound::Bound;
 use std::cell::Cell;
@@ -100,7 +100,7 @@ impl<'c, 'a> Call<'c, 'a> {
 
     /// The name and the bytes of `NAME=BYTES`.
     pub(crate) fn option(&self, place: usize) -> (&'a str, &'a [u8]) {
-        let (name, value) = halves(self.word(place));
+        let (name, value) = split_word(self.word(place));
         match self.line.hex(place) {
             Some(bytes) => (name, bytes),
             None => (name, value.as_bytes()),
@@ -120,7 +120,7 @@ impl<'c, 'a> Call<'c, 'a> {
 
     /// A context by its name.
     pub fn context(&self, place: usize) -> &'c Argon2<'a> {
-        let found = self.contexts.named(self.word(place));
+        let found = self.contexts.get(self.word(place));
         if found.is_none() {
             self.refuse();
         }

@@ -31,7 +31,7 @@ impl<'a> Contexts<'a> {
     /// `AllocError`, if memory is refused.
     pub fn add(&mut self, lines: &'a [Line<'a>]) -> Outcome<(), AllocError> {
         for line in lines {
-            if let Some(context) = self.defined(line) {
+            if let Some(context) = self.definition(line) {
                 self.all.push(context)?;
             }
         }
@@ -39,16 +39,16 @@ impl<'a> Contexts<'a> {
     }
 
     // The name and the context that a line defines, if it does.
-    fn defined(&self, line: &'a Line<'a>) -> Option<(&'a str, Argon2<'a>)> {
+    fn definition(&self, line: &'a Line<'a>) -> Option<(&'a str, Argon2<'a>)> {
         let call = Call::new(line, self);
         match call.name {
-            "context" => Some((call.word(1), read(&call).ok()?)),
+            "context" => Some((call.word(1), read_context(&call).ok()?)),
             _ => None,
         }
     }
 
     /// The context of this name.
-    pub(crate) fn named(&self, name: &str) -> Option<&Argon2<'a>> {
+    pub(crate) fn get(&self, name: &str) -> Option<&Argon2<'a>> {
         for (other, context) in &self.all {
             if *other == name {
                 return Some(context);
@@ -63,11 +63,11 @@ impl<'a> Contexts<'a> {
 
 /// Answers a line `context ..`.
 pub fn define(call: &Call<'_, '_>, answer: &Answer) {
-    answer.display_done(read(call).and(Ok(())));
+    answer.display_done(read_context(call).and(Ok(())));
 }
 
 // The context that the values say, or the error of the algorithm, the version or the parameters.
-fn read<'a>(call: &Call<'_, 'a>) -> Result<Argon2<'a>> {
+fn read_context<'a>(call: &Call<'_, 'a>) -> Result<Argon2<'a>> {
     let (algorithm, version) = (
         Algorithm::new(call.word(2)),
         Version::try_from(call.count(3)),

@@ -336,8 +336,8 @@ fn fill(argon2: &Argon2<'_>, memory: &mut [Words], at: Segment) -> bool {
     }
     let start = (at.slice as usize).checked_mul(width);
     let behind = ((3 - at.slice) as usize).checked_mul(width);
-    let (before, lanes, after) = apart(memory, start.unwrap_or(0), width);
-    let own = apart(lanes, segment.wrapping_mul(at.lane as usize), segment).1;
+    let (before, lanes, after) = split_apart(memory, start.unwrap_or(0), width);
+    let own = split_apart(lanes, segment.wrapping_mul(at.lane as usize), segment).1;
     let fits = start == Some(before.len()) && own.len() == segment && behind == Some(after.len());
     if fits {
         argon2.fill_segment(argon2.params().data(), before, own, after, at);
@@ -346,7 +346,11 @@ fn fill(argon2: &Argon2<'_>, memory: &mut [Words], at: Segment) -> bool {
 }
 
 // The blocks before a place, so many behind it, and the others, as far as there are so many.
-fn apart(memory: &mut [Words], place: usize, count: usize) -> (&[Words], &mut [Words], &[Words]) {
+fn split_apart(
+    memory: &mut [Words],
+    place: usize,
+    count: usize,
+) -> (&[Words], &mut [Words], &[Words]) {
     let place = place.min(memory.len());
     let (before, rest) = memory.split_at_mut(place);
     let count = count.min(rest.len());

@@ -52,13 +52,13 @@ pub fn lines_of(alloc: Global, text: &str) -> Result<Vec<Line<'_>>, AllocError> 
 fn bytes_of(alloc: Global, line: &str) -> Result<Vec<Option<Vec<u8>>>, AllocError> {
     let mut all = Vec::new(alloc);
     for word in line.split(' ') {
-        all.push(decode(alloc, halves(word).1)?)?;
+        all.push(decode(alloc, split_word(word).1)?)?;
     }
     Ok(all)
 }
 
 // What stands before and behind the first `=`.
-pub(crate) fn halves(word: &str) -> (&str, &str) {
+pub(crate) fn split_word(word: &str) -> (&str, &str) {
     match word.split_once('=') {
         Some((name, value)) => (name, value),
         None => ("", word),
