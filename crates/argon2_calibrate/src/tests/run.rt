@@ -58,7 +58,7 @@ fn status<S: Stopwatch, W: Write, E: Write>(
 }
 
 // What a run with status 0 writes to its output and its errors.
-fn written<S: Stopwatch>(
+fn output_of<S: Stopwatch>(
     alloc: Global,
     options: Options,
     stopwatch: &mut S,
@@ -77,7 +77,7 @@ fn answers(alloc: Global, options: Options, once: u64, answer: &str) -> Result<b
         once,
         busy: 0,
     };
-    let (output, _) = written(alloc, options, &mut stopwatch)?;
+    let (output, _) = output_of(alloc, options, &mut stopwatch)?;
     Ok(output.as_slice() == answer.as_bytes())
 }
 
@@ -176,7 +176,7 @@ fn corrects(alloc: Global, both: u64, tried: &str) -> Result<bool, Fail> {
         target: 500_000,
         ..ONE
     };
-    let (output, errors) = written(alloc, options, &mut Uneven(both))?;
+    let (output, errors) = output_of(alloc, options, &mut Uneven(both))?;
     let printed = str::from_utf8(errors.as_slice()).unwrap_or("");
     let busy = b"\nthe machine was busy: times may be too long\n";
     Ok(
@@ -210,7 +210,7 @@ fn prints_each_time(rt: HostRuntime) -> Result<(), Fail> {
         most: 1_048_576,
         ..ONE
     };
-    let (_, errors) = written(rt.alloc(), options, &mut stopwatch)?;
+    let (_, errors) = output_of(rt.alloc(), options, &mut stopwatch)?;
     let printed = "argon2-calibrate: m=1048576,t=1,p=1 takes 1.048576 seconds
 argon2-calibrate: m=524288,t=1,p=1 takes 0.524288 seconds
 argon2-calibrate: m=524288,t=2,p=1 takes 1.048576 seconds
@@ -232,7 +232,7 @@ fn repeats(
         once: 0,
         busy,
     };
-    let (output, errors) = written(alloc, options, &mut stopwatch)?;
+    let (output, errors) = output_of(alloc, options, &mut stopwatch)?;
     let lines = str::from_utf8(errors.as_slice()).unwrap_or("").split('\n');
     let said = lines
         .filter(|line| *line == "argon2-calibrate: the machine is busy, measuring again")
@@ -296,7 +296,7 @@ fn halves_memory_that_is_refused(rt: HostRuntime) -> Result<(), Fail> {
         blocks: 4095,
         measurements: 100,
     };
-    let (output, errors) = written(rt.alloc(), ONE, &mut stopwatch)?;
+    let (output, errors) = output_of(rt.alloc(), ONE, &mut stopwatch)?;
     let printed = "argon2-calibrate: m=65536 is out of memory, trying half
 argon2-calibrate: m=32768 is out of memory, trying half
 argon2-calibrate: m=16384 is out of memory, trying half
@@ -360,7 +360,7 @@ fn reports_what_fails(rt: HostRuntime) -> Result<(), Fail> {
 #[test]
 fn is_busy_if_the_processor_does_other_work(rt: HostRuntime) -> Result<(), Fail> {
     for (worked, busy) in [(749_999, true), (750_000, false)] {
-        let (output, _) = written(rt.alloc(), ONE, &mut Shared(worked))?;
+        let (output, _) = output_of(rt.alloc(), ONE, &mut Shared(worked))?;
         let end = if busy {
             "1.000000 seconds\nthe machine was busy: times may be too long\n"
         } else {
