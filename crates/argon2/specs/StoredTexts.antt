@@ -2,7 +2,9 @@
 use Rattle.std.specs.Prelude.{ℕ, List, length, Some, Result, Ok, Err, ok_or, unwrap_or, ◌≡◌, ◌≤◌, ◌&&◌, nat_le, Bool, if◌then◌else◌, IsOk, ◌⊎◌}
 use Rattle.std.specs.Str.{bytes_eq}
 use Rattle.argon2_base.specs.Error.{Fault, bad_algorithm, bad_encoding, bad_password, bad_version, no_memory, outcome_of}
-use Rattle.argon2_base.specs.PhcText.{Phc, IsPhcText}
+use Rattle.argon2_base.specs.PhcFields.{phc_of}
+use Rattle.argon2_base.specs.PhcText.{Phc, IsPhcText, phc_text}
+use Rattle.argon2_base.specs.declared.phc.hash.PasswordHash.{PasswordHash}
 use Rattle.argon2.specs.declared.password_hash.stored.Settings.{Settings}
 use Rattle.argon2.specs.declared.password_hash.stored.Stored.{Stored}
 use Rattle.argon2.specs.Settings.{SettingsValue, algorithm_named, version_numbered}
@@ -62,6 +64,10 @@ pub record AcceptsBy (secret password : List ℕ) (v : Phc) : Type 0 where
 -- under a secret, the text accepts the password
 abbrev pub Accepts : List ℕ → List ℕ → List ℕ → Type 0
 Accepts secret password text = (v : Phc) × IsPhcText text v × AcceptsBy secret password v
+
+-- under a secret, the text of the hash accepts the password
+pub record AcceptsHash (secret password : List ℕ) (hash : PasswordHash) : Type 0 where
+  pub text : Accepts secret password (phc_text (phc_of hash))
 
 -- ---- what verifying answers
 

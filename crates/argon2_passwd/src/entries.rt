@@ -3,6 +3,7 @@
 ghost use Rattle.std.specs.Prelude.{◌≡◌, IfErr, IfOk, IfSome, MatchOption};
 ghost use Rattle.argon2_passwd.specs.Lines.{MayNotBeAdded, MayBeAdded, has_control, has_field, has_scheme, name_flaw, parts_now, parts_of};
 ghost use Rattle.argon2_passwd.specs.Failures.{status_of};
+ghost use Rattle.argon2_rows.specs.Names.{text_in};
 
 use crate::failure::{Failure, Flaw, of_reading};
 use argon2::password_hash::Settings;

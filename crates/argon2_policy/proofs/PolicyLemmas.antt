@@ -126,7 +126,8 @@ under_any secret other password v e differs (inr memory) = inr memory
 neither : {M A B C : Type 0} → M ⊎ ¬ A → M ⊎ ¬ C → M ⊎ ¬ (A ⊎ (B × C))
 neither a c = grind arith
 
-fault_first : (r : Result StoredValue Fault) (is_right : StoredValue → Bool) (fault : Fault) → r ≡ Err fault → Err fault ≡ judged is_right r
+fault_first : (r : Result StoredValue Fault) (is_right : StoredValue → Bool) (fault : Fault) → r ≡ Err fault
+    → Err fault ≡ judged is_right r
 fault_first r is_right fault is = grind arith
 
 module _ (policy : PolicyValue) (password : List ℕ) (v : Phc) where
@@ -200,7 +201,8 @@ text_or None v other r is says = absurd says
 text_or (Some text) v other r is says = rw is refl
 
 -- what is stored says this value alone, which refuses the password
-pub not_admitted : {X : Type 0} (policy : PolicyValue) (password : List ℕ) (stored : Option (List ℕ)) (v : Phc) (r : Result X Denial)
+pub not_admitted : {X : Type 0} (policy : PolicyValue) (password : List ℕ) (stored : Option (List ℕ)) (v : Phc)
+    (r : Result X Denial)
     → ((w : Phc) → SaysValue stored w → v ≡ w) → IfErr r (IsDenial policy password v)
     → IfErr r (λ why. (why ≡ Refused OutOfMemory) ⊎ ¬ (AdmitsStored policy password stored))
 not_admitted policy password stored v (Ok x) only denies = tt
@@ -279,7 +281,8 @@ at_least_once : (o : Option (List ℕ)) (n : ℕ) → n ≡ 1 → n ≤ (if is_s
 at_least_once o n once = grind arith
 
 -- without memory a password is hashed once
-pub hashed_once : (policy : PolicyValue) (e : Error) (n : ℕ) → (e ≡ PasswordInvalid) ⊎ (e ≡ OutOfMemory) → e ≢ PasswordInvalid → n ≡ 1
+pub hashed_once : (policy : PolicyValue) (e : Error) (n : ℕ) → (e ≡ PasswordInvalid) ⊎ (e ≡ OutOfMemory)
+    → e ≢ PasswordInvalid → n ≡ 1
     → IsHashedFor policy (Refused e) n
 hashed_once policy e n (inl wrong) isnt once = absurd (isnt wrong)
 hashed_once policy e n (inr memory) isnt once = rw memory (at_least_once policy.old_secret n once)

@@ -20,6 +20,10 @@ changed names name (Some text) = insert names name text
 
 -- ---- several names
 
+-- what is stored
+abbrev pub text_in : StoredText → List ℕ
+text_in stored = stored.text.now
+
 -- a name and its text
 abbrev pub entry_of : Bor (List ℕ) × StoredText → List ℕ × List ℕ
 entry_of e = (e.0.now, text_in e.1)

@@ -5,7 +5,7 @@ ghost use Rattle.argon2_base.specs.PhcFields.{phc_of};
 ghost use Rattle.argon2_base.specs.PhcText.{IsPhcText};
 ghost use Rattle.argon2_base.specs.declared.error.password_hash.Error.TheVariants.{EncodingInvalid};
 ghost use Rattle.argon2_programs.specs.Locks.{without_lock};
-ghost use Rattle.argon2_rows.specs.StoredTexts.{IsLine, IsStored, text_in};
+ghost use Rattle.argon2_rows.specs.StoredTexts.{IsLine, IsStored};
 
 use argon2_base::error::password_hash::Result;
 use argon2_base::phc::PasswordHash;
@@ -19,6 +19,8 @@ pub struct StoredText<'a> {
 }
 
 impl<'a> StoredText<'a> {
+    ghost use Rattle.argon2_rows.specs.Names.{text_in};
+
     /// A text with what it says, without a `!` before it.
     ///
     /// # Errors

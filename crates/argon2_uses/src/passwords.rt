@@ -2,12 +2,10 @@
 
 ghost use Rattle.std.specs.Prelude.{◌≡◌, ◌↔◌, ◌⊎◌, [], IsTrue, IfOk, MatchResult};
 ghost use Rattle.argon2.specs.TextHashing.{drawn_salt};
-ghost use Rattle.argon2.specs.StoredTexts.{Accepts};
+ghost use Rattle.argon2.specs.StoredTexts.{Accepts, AcceptsHash};
 ghost use Rattle.argon2.specs.TextHashing.{IsHashAnswer};
-ghost use Rattle.argon2.specs.PhcFields.{phc_of};
-ghost use Rattle.argon2.specs.PhcText.{phc_text};
 ghost use Rattle.argon2.specs.base_declared.error.password_hash.Error.TheVariants.{OutOfMemory};
-ghost use Rattle.argon2_uses.specs.Passwords.{default_target, IsAcceptedAnswer};
+ghost use Rattle.argon2_uses.specs.Passwords.{default_target};
 
 use argon2::password_hash::{Error, Result};
 use argon2::{Argon2, PasswordHash, PasswordHasher, PasswordVerifier};
@@ -16,7 +14,7 @@ use std::alloc::Global;
 
 /// What to store for a new password: it prints as the text.
 pub fn stored<R: Rng>(alloc: Global, rng: &mut R, password: &[u8]) -> Result<PasswordHash>
-    ensures accepted { IfOk result (λ hash. Accepts [] password.now (phc_text (phc_of hash))) }
+    ensures accepted { IfOk result (AcceptsHash [] password.now) }
     ensures made { IsHashAnswer default_target password.now (drawn_salt (R.stream rng.old))
         result }
 {
@@ -30,7 +28,6 @@ pub fn stored<R: Rng>(alloc: Global, rng: &mut R, password: &[u8]) -> Result<Pas
 pub fn is_accepted(alloc: Global, password: &[u8], text: &str) -> Result<bool>
     ensures answer { MatchResult result (λ yes. IsTrue yes ↔ Accepts [] password.now text.now)
         (λ e. (e ≡ OutOfMemory) ⊎ (Accepts [] password.now text.now → ⊥)) }
-    ensures verified { IsAcceptedAnswer password.now text.now result }
 {
     match Argon2::default().verify_password(alloc, password, text) {
         Ok(()) => Ok(true),

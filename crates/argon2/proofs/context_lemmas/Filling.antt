@@ -16,7 +16,8 @@ HasBlocksUpTo-like ctx first pass done done' memory same h = grind arith
 
 -- ---- a step of a slice, in which each lane has so many columns
 
-module _ (ctx : Context) (sizes : HasSizes ctx) (first : FirstColumns) (pass lane column slice : ℕ) (done : ℕ → ℕ) (memory : Memory)
+module _ (ctx : Context) (sizes : HasSizes ctx) (first : FirstColumns)
+    (pass lane column slice : ℕ) (done : ℕ → ℕ) (memory : Memory)
     (st : IsStep ctx pass lane column) (here : InSlice (segment_length ctx) column slice) (now : done lane ≡ column)
     (about : (l : ℕ) → l < ctx.p_cost → (slice * segment_length ctx ≤ done l) × (done l ≤ (slice + 1) * segment_length ctx))
     (h : HasBlocksUpTo ctx first pass done memory) where

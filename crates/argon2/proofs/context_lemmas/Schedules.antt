@@ -115,7 +115,8 @@ alone ctx pass slice lane zero memory = memory
 alone ctx pass slice lane (suc n) memory = alone ctx pass slice lane n (step ctx memory pass lane (turn_column ctx slice n))
 
 -- a lane sees what its own turns alone make
-run_alone : (ctx : Context) → HasSizes ctx → (pass slice lane : ℕ) → slice < 4 → (schedule : List ℕ) → MayRun ctx pass slice schedule
+run_alone : (ctx : Context) → HasSizes ctx → (pass slice lane : ℕ) → slice < 4 → (schedule : List ℕ)
+    → MayRun ctx pass slice schedule
     → (memory memory' : Memory) → SeenAlike ctx slice lane memory memory'
     → SeenAlike ctx slice lane (run ctx pass slice schedule memory) (alone ctx pass slice lane (turns lane schedule) memory')
 unfolding run alone

@@ -3,11 +3,10 @@
 ghost use Rattle.std.specs.Prelude.{◌≡◌, ◌≤◌, Ok, length, option_copied};
 ghost use Rattle.argon2_base.specs.Error.{outcome_of};
 ghost use Rattle.argon2_base.specs.PhcFields.{phc_of};
-ghost use Rattle.argon2_base.specs.PhcText.{phc_text};
 ghost use Rattle.argon2.specs.TextHashing.{IsAskedAnswer, IsHashAnswer, IsTagAnswer, algorithm_or_default, settings_or_default, tag_length, target_of, version_or_default};
 ghost use Rattle.argon2.specs.TextHashing.{with_tag_length};
 ghost use Rattle.argon2.specs.Argon2.{IsSound, parameters_of, secret_of, settings_of};
-ghost use Rattle.argon2.specs.StoredTexts.{Accepts, shown_settings};
+ghost use Rattle.argon2.specs.StoredTexts.{AcceptsHash, shown_settings};
 
 use super::{CustomizedPasswordHasher, Error, PasswordHasher, Result};
 use crate::algorithm::Algorithm;
@@ -47,8 +46,7 @@ impl Argon2<'_> {
 impl PasswordHasher<PasswordHash> for Argon2<'_> {
     ghost hash_gives = { λ argon2. IsHashAnswer (target_of argon2) };
 
-    ghost accepts = { λ argon2 password hash.
-        Accepts (secret_of argon2) password (phc_text (phc_of hash)) };
+    ghost accepts = { λ argon2. AcceptsHash (secret_of argon2) };
 
     ghost shows = { λ argon2 hash. shown_settings (phc_of hash) ≡ Ok (with_tag_length (settings_of argon2)) };
 
@@ -111,8 +109,7 @@ impl CustomizedPasswordHasher<PasswordHash> for Argon2<'_> {
     ghost customized_gives = { λ argon2 name number params.
         IsAskedAnswer (settings_or_default name number (parameters_of params)) (secret_of argon2) };
 
-    ghost accepts = { λ argon2 password hash.
-        Accepts (secret_of argon2) password (phc_text (phc_of hash)) };
+    ghost accepts = { λ argon2. AcceptsHash (secret_of argon2) };
 
     /// If no algorithm is given it is Argon2id, and if no version is, 0x13, whatever this
     /// context's are. Its secret is used.

@@ -10,7 +10,8 @@ loop-index-init c =
     let start = c.first_index-start.ensures in
     let turns = start.turns in
     let few = start.few in
-    let begins : columns_before ctx c.args.at.pass c.args.at.slice ≡ c.args.at.slice * segment_length ctx + c.first_index-start.result =
+    let begins : columns_before ctx c.args.at.pass c.args.at.slice
+    ≡ c.args.at.slice * segment_length ctx + c.first_index-start.result =
     omega arith in
     let serves : 0 / 128 ≡ (c.first_index-start.result - 1) / 128 = omega arith in
     record {
@@ -18,7 +19,8 @@ loop-index-init c =
       filled = λ first memory parts is.
           let like = HasBlocksUpTo-like ctx first c.args.at.pass _ _ memory (λ l _. grind (arith, nat_tests)) in
           (memory, (parts, rw (← begins) (like is)));
-      addresses = c.addresses-addresses.ensures.block ∙ same_addresses ctx c.args.at.pass c.args.at.lane c.args.at.slice _ _ serves;
+      addresses = c.addresses-addresses.ensures.block
+          ∙ same_addresses ctx c.args.at.pass c.args.at.lane c.args.at.slice _ _ serves;
     }
 
 pub loop-index-preserved : goal.loop-index-preserved

@@ -9,6 +9,7 @@ invariant-loop-index l = record {
   filled : (first : FirstColumns) (memory : Memory) → AreParts l.self l.fn.at.slice l.fn.at.lane memory l.before l.fn.own l.after
       → HasBlocksUpTo l.self first l.fn.at.pass (λ _. columns_before l.self l.fn.at.pass l.fn.at.slice) memory
       → (new : Memory) × (AreParts l.self l.fn.at.slice l.fn.at.lane new l.before l.own l.after
-      × HasBlocksUpTo l.self first l.fn.at.pass (ahead l.self l.fn.at.pass l.fn.at.slice l.fn.at.lane (l.fn.at.slice * segment_length l.self + l.index)) new);
+      × HasBlocksUpTo l.self first l.fn.at.pass
+      (ahead l.self l.fn.at.pass l.fn.at.slice l.fn.at.lane (l.fn.at.slice * segment_length l.self + l.index)) new);
   addresses : l.addresses ≡ addresses_at l.self l.fn.at.pass l.fn.at.lane l.fn.at.slice (l.index - 1);
 }

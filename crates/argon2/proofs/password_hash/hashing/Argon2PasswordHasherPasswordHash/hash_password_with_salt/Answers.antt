@@ -27,6 +27,6 @@ returns c =
     record {
       answer = inl (answer_made target password salt lengths.0 lengths.1 fits _ is
           c.in_ok-hash.ensures.0);
-      accepted = made_accepted target target_fits password salt _ is bytes c.in_ok-hash.ensures.0;
+      accepted = record { text = made_accepted target target_fits password salt _ is bytes c.in_ok-hash.ensures.0 };
       shown = made_shows target target_fits password salt _ is;
     }
