@@ -21,8 +21,6 @@ pub(crate) trait Disks: Store + Drop {
     fn open(rt: &HostRuntime, path: &str) -> Result<AccountFile<Self>, OpenError>;
 
     fn checkpoint(answer: &Answer, file: &mut AccountFile<Self>);
-
-    fn sign_up(call: &Call<'_, '_>, answer: &Answer, held: &mut Accounts<'_, Self>);
 }
 
 impl Disks for OnDisk {
@@ -32,13 +30,6 @@ impl Disks for OnDisk {
 
     fn checkpoint(answer: &Answer, file: &mut AccountFile<OnDisk>) {
         answer.display_done(file.checkpoint());
-    }
-
-    // `NAME GENERATOR PASSWORD`.
-    fn sign_up(call: &Call<'_, '_>, answer: &Answer, held: &mut Accounts<'_, OnDisk>) {
-        let (name, mut rng, password) = (call.word(1), call.generator(2), call.bytes(3));
-        answer.display_done(argon2_service::sign_up(held, &mut rng, name, password));
-        answer.display_drawn(&rng);
     }
 }
 
@@ -91,7 +82,6 @@ fn make_on_accounts<S: Disks>(call: &Call<'_, '_>, answer: &Answer, held: &mut A
         "AccountFile::add_all" => add_all(call, answer, &mut held.file),
         name => {
             match name {
-                "service::sign_up" => S::sign_up(call, answer, held),
                 name if name.starts_with("AccountFile::") => make_on_name(
                     call,
                     answer,
@@ -181,9 +171,6 @@ fn make_with_password<S: Store>(call: &Call<'_, '_>, answer: &Answer, held: &mut
         )),
         "Accounts::change_password" => {
             answer.display_done(held.change_password(&mut rng, name, password, call.bytes(4)));
-        }
-        "service::has_password" => {
-            answer.display_result(argon2_service::has_password(held, &mut rng, name, password));
         }
         _ => call.refuse(),
     }

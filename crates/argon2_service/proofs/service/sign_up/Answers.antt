@@ -1,6 +1,6 @@
 use Rattle.std.proofs.Common.{arith}
 use Rattle.argon2_rows.proofs.TableLemmas.{err_is}
-use Rattle.argon2_service.proofs.sign_up.Goals as goal
+use Rattle.argon2_service.proofs.service.sign_up.Goals as goal
 
 pub returns-in_err-register : goal.returns-in_err-register
 returns-in_err-register g c before has =

@@ -1,6 +1,4 @@
-//! A service whose names and passwords are in a file, as a caller writes it. It is no part of `argon2_uses`, whose callers
-//! would load SQLite's crates.
-#![tactic(auto)]
+//! What a service does with its accounts. Each function says by its contract what it promises of the names.
 
 ghost use Rattle.std.specs.Prelude.{◌≡◌, false, IfErr, IfOk, IsTrue, OnOk};
 ghost use Rattle.std.specs.FinMap.{get};
