@@ -5,7 +5,7 @@ ghost use Rattle.argon2.specs.TextHashing.{drawn_salt};
 ghost use Rattle.argon2.specs.StoredTexts.{Accepts, AcceptsHash};
 ghost use Rattle.argon2.specs.TextHashing.{IsHashAnswer};
 ghost use Rattle.argon2.specs.base_declared.error.password_hash.Error.TheVariants.{OutOfMemory};
-ghost use Rattle.argon2_uses.specs.Passwords.{default_target};
+ghost use Rattle.argon2_uses.specs.Passwords.{default_target, IsAcceptedAnswer};
 
 use argon2::password_hash::{Error, Result};
 use argon2::{Argon2, PasswordHash, PasswordHasher, PasswordVerifier};
@@ -28,6 +28,7 @@ pub fn stored<R: Rng>(alloc: Global, rng: &mut R, password: &[u8]) -> Result<Pas
 pub fn is_accepted(alloc: Global, password: &[u8], text: &str) -> Result<bool>
     ensures answer { MatchResult result (λ yes. IsTrue yes ↔ Accepts [] password.now text.now)
         (λ e. (e ≡ OutOfMemory) ⊎ (Accepts [] password.now text.now → ⊥)) }
+    ensures verified { IsAcceptedAnswer password.now text.now result }
 {
     match Argon2::default().verify_password(alloc, password, text) {
         Ok(()) => Ok(true),
