@@ -5,9 +5,10 @@ ghost use Rattle.std.specs.List.{list_all};
 ghost use Rattle.std.specs.Fmt.{decimal};
 ghost use Rattle.base64.specs.Decode.{IsWrittenOver, decoded_estimate};
 ghost use Rattle.argon2_base.specs.Texts.{IsBytes, is_value_char, strict_base64};
+ghost use Rattle.argon2.specs.Settings.{algorithm_number};
 ghost use Rattle.argon2_c.specs.Texts.{IsShown, Said, IsSaid, Says, costs_part, in_base64, plain_spelling, said_of, spelling, version_part};
 
-use crate::hash::name;
+use argon2::Algorithm;
 use argon2_base::phc::read_decimal;
 use base64::engine::general_purpose::STANDARD_NO_PAD;
 
@@ -31,16 +32,15 @@ pub struct Shown {
 
 /// Reads a text of this variant, and writes its salt and then its hash to the front of `room`. If it
 /// is no such text, `room` may hold anything.
-pub fn decode(algorithm: u32, text: &[u8], room: &mut [u8]) -> Option<Shown>
-    requires variant { algorithm ≤ 2 }
-    requires room { 2 * length text.now ≤ length room.old }
-    ensures found { IfSome result (λ shown. (v : Said) × Says algorithm text.now v
+pub fn decode(algorithm: Algorithm, text: &[u8], room: &mut [u8]) -> Option<Shown>
+    requires { 2 * length text.now ≤ length room.old }
+    ensures found { IfSome result (λ shown. (v : Said) × Says (algorithm_number algorithm) text.now v
         × IsShown v shown × IsWrittenOver (v.salt ++ v.tag) room.old room.new) }
     ensures within { IfSome result (λ shown. shown.salt + shown.tag ≤ length text.now) }
-    ensures only { (v : Said) → Says algorithm text.now v → IsSomeAnd result (λ shown.
+    ensures only { (v : Said) → Says (algorithm_number algorithm) text.now v → IsSomeAnd result (λ shown.
         IsShown v shown × IsWrittenOver (v.salt ++ v.tag) room.old room.new) }
 {
-    let name = name(algorithm);
+    let name = algorithm.as_str();
     let Ok(text) = std::str::from_utf8(text) else {
         return None;
     };

@@ -3,11 +3,13 @@
 ghost use Rattle.std.specs.Prelude.{◌≡◌, ◌≢◌, ◌++◌, ◌∷◌, ◌+◌, ◌*◌, ◌/◌, ◌<◌, ◌≤◌, ℕ, List, Some, suc, length, drop};
 ghost use Rattle.std.specs.Fmt.{decimal};
 ghost use Rattle.argon2_base.specs.Texts.{strict_base64};
+ghost use Rattle.argon2.specs.Settings.{algorithm_number};
 ghost use Rattle.argon2_c.specs.Texts.{WritesBehind, costs_part, encode_code, hash_text, name_numbered, text_asked, version_part};
 
 use crate::code::{ENCODING_FAIL, OK};
-use crate::hash::name;
+use crate::hash::variant;
 use crate::request::Request;
+use argon2::Algorithm;
 use arrayvec::ArrayString;
 use base64::engine::general_purpose::STANDARD_NO_PAD;
 use itoa::Buffer;
@@ -30,9 +32,9 @@ pub extern "C" fn argon2_c_encode(request: &Request, salt: &[u8], tag: &[u8], ou
         lanes,
         ..
     } = *request;
-    if algorithm > 2 {
+    let Some(algorithm) = variant(algorithm) else {
         return ENCODING_FAIL;
-    }
+    };
     let front = front(algorithm, version, m_cost, t_cost, lanes);
     if text_len(front.as_str().len(), salt.len(), tag.len()) >= out.len() as u128 {
         return ENCODING_FAIL;
@@ -46,14 +48,19 @@ pub extern "C" fn argon2_c_encode(request: &Request, salt: &[u8], tag: &[u8], ou
 }
 
 // What a text has in front of its salt.
-fn front(algorithm: u32, version: u32, m_cost: u32, t_cost: u32, lanes: u32) -> ArrayString<64>
-    requires { algorithm ≤ 2 }
-    ensures { (left : List ℕ) → result.bytes ++ left ≡ 36 ∷ (name_numbered algorithm
+fn front(
+    algorithm: Algorithm,
+    version: u32,
+    m_cost: u32,
+    t_cost: u32,
+    lanes: u32,
+) -> ArrayString<64>
+    ensures { (left : List ℕ) → result.bytes ++ left ≡ 36 ∷ (name_numbered (algorithm_number algorithm)
         ++ 36 ∷ version_part (Some version) (costs_part m_cost t_cost lanes left)) }
 {
     let mut text = ArrayString::new();
     text.push('$');
-    text.push_str(name(algorithm));
+    text.push_str(algorithm.as_str());
     push_number(&mut text, "$v=", version);
     push_number(&mut text, "$m=", m_cost);
     push_number(&mut text, ",t=", t_cost);
@@ -108,9 +115,9 @@ pub extern "C" fn argon2_c_encoded_length(
         → result ≡ length (hash_text algorithm 19 m_cost t_cost lanes salt tag) + 1 }
     ensures none { 2 < algorithm → result ≡ 0 }
 {
-    if algorithm > 2 {
+    let Some(algorithm) = variant(algorithm) else {
         return 0;
-    }
+    };
     let front = front(algorithm, 19, m_cost, t_cost, lanes);
     text_len(front.as_str().len(), salt_len as usize, tag_len as usize) as usize + 1
 }

@@ -1,13 +1,12 @@
 //! Hashing, and comparing what was hashed.
 
-ghost use Rattle.std.specs.Prelude.{◌≡◌, ◌≢◌, ◌↔◌, ◌≤◌, ◌*◌, IfSome, IsSome, None, [], length};
+ghost use Rattle.std.specs.Prelude.{◌≡◌, ◌≢◌, ◌↔◌, ◌<◌, ◌*◌, IfSome, IsNone, IsSome, None, [], length};
 ghost use Rattle.argon2.specs.Settings.{algorithm_number};
 ghost use Rattle.argon2.specs.Argon2.{context_of, own_parameters};
 ghost use Rattle.argon2.specs.Hashing.{blocks_of};
 ghost use Rattle.argon2.specs.Layout.{matrix_of};
 ghost use Rattle.argon2.specs.Segments.{slice_length};
 ghost use Rattle.argon2_c.specs.Requests.{request_context, IsFaultless, IsTagged};
-ghost use Rattle.argon2_c.specs.Texts.{name_numbered};
 ghost use Rattle.argon2_c.specs.Verifying.{compare_code};
 
 use crate::code::{INCORRECT_PARAMETER, OK, VERIFY_MISMATCH};
@@ -93,37 +92,30 @@ pub fn hashing<'key>(
         ≡ request_context request.now secret.now []) }
     ensures any_length { IfSome result (λ argon2. (own_parameters argon2).output_len ≡ None) }
 {
-    if request.algorithm > 2 || associated > MAX_AD_LEN {
+    if associated > MAX_AD_LEN {
         return None;
     }
+    let algorithm = variant(request.algorithm)?;
     let version = match request.version {
         16 => Version::V0x10,
         19 => Version::V0x13,
         _ => return None,
     };
     let params = Params::new(request.m_cost, request.t_cost, request.lanes, None).ok()?;
-    Argon2::new_with_secret(secret, variant(request.algorithm), version, params).ok()
+    Argon2::new_with_secret(secret, algorithm, version, params).ok()
 }
 
-/// The variant of a number.
-pub fn variant(number: u32) -> Algorithm
-    requires { number ≤ 2 }
-    ensures { algorithm_number result ≡ number }
+/// The variant of a number, if there is one.
+pub fn variant(number: u32) -> Option<Algorithm>
+    ensures found { IfSome result (λ algorithm. algorithm_number algorithm ≡ number) }
+    ensures none { IsNone result ↔ 2 < number }
 {
     match number {
-        0 => Algorithm::Argon2d,
-        1 => Algorithm::Argon2i,
-        _ => Algorithm::Argon2id,
+        0 => Some(Algorithm::Argon2d),
+        1 => Some(Algorithm::Argon2i),
+        2 => Some(Algorithm::Argon2id),
+        _ => None,
     }
-}
-
-/// The name of the variant of a number.
-pub fn name(number: u32) -> &'static str
-    requires { number ≤ 2 }
-    ensures name { result.now ≡ name_numbered number }
-    ensures short { length result.now ≤ 8 }
-{
-    variant(number).as_str()
 }
 
 /// Whether two slices are equal: 0, or -35. If they have one length, it reads each byte of both.

@@ -5,6 +5,7 @@ ghost use Rattle.argon2.specs.Refusals.{first_of};
 ghost use Rattle.argon2_c.specs.Requests.{IsFaultless, length_faults, request_faults};
 
 use crate::code::*;
+use crate::hash::variant;
 use argon2::{MAX_AD_LEN, MAX_PWD_LEN, MAX_SALT_LEN, MAX_SECRET_LEN, MIN_SALT_LEN, Params};
 
 /// What a C caller asks for beside its bytes.
@@ -95,7 +96,7 @@ pub extern "C" fn argon2_c_refusal(
         FREE_MEMORY_CBK_NULL
     } else if !request.has_allocate && request.has_free {
         ALLOCATE_MEMORY_CBK_NULL
-    } else if request.algorithm > 2 {
+    } else if variant(request.algorithm).is_none() {
         INCORRECT_TYPE
     } else if request.version != 16 && request.version != 19 {
         INCORRECT_TYPE

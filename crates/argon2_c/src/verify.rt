@@ -1,13 +1,16 @@
 //! What the text of a hash says, by which a password is verified.
 
-ghost use Rattle.std.specs.Prelude.{◌≡◌, ◌≤◌, ◌+◌, ◌*◌, ℤ, None, Some, IsNone, length};
+ghost use Rattle.std.specs.Prelude.{◌≡◌, ◌≤◌, ◌+◌, ◌*◌, ℤ, None, Some, IfOk, length};
+ghost use Rattle.std.specs.Result.{result_err};
+ghost use Rattle.argon2.specs.Settings.{algorithm_number};
 ghost use Rattle.argon2_c.specs.Texts.{IsShown, Said, Says};
 ghost use Rattle.argon2_c.specs.Verifying.{call_refusal, shown_request, IsDecoded};
 
 use crate::code::{DECODING_FAIL, INCORRECT_TYPE, MEMORY_ALLOCATION_ERROR, OK, PWD_TOO_LONG};
 use crate::decode::{Shown, decode};
+use crate::hash::variant;
 use crate::request::{Request, argon2_c_refusal};
-use argon2::MAX_PWD_LEN;
+use argon2::{Algorithm, MAX_PWD_LEN};
 
 // The most bytes of a text; the reference library refuses a longer one.
 const MAX_TEXT_LEN: usize = 4294967295;
@@ -39,10 +42,11 @@ pub extern "C" fn argon2_c_decode(
         → (result ≡ DECODING_FAIL) × (shown.new ≡ shown.old) }
     ensures within { result ≡ OK → shown.new.salt + 2 * shown.new.tag ≤ length room.old }
 {
-    if let Some(code) = call_refusal(algorithm, has_text, text.len(), pwd, room.len()) {
-        return code;
-    }
-    let Some(found) = decode(algorithm, text, room) else {
+    let variant = match asked_variant(algorithm, has_text, text.len(), pwd, room.len()) {
+        Ok(variant) => variant,
+        Err(code) => return code,
+    };
+    let Some(found) = decode(variant, text, room) else {
         return DECODING_FAIL;
     };
     *shown = found;
@@ -50,22 +54,30 @@ pub extern "C" fn argon2_c_decode(
     argon2_c_refusal(&request, found.tag, pwd, found.salt, 0, 0)
 }
 
-// Why a call is refused before the text is read.
-fn call_refusal(algorithm: u32, has_text: bool, text: usize, pwd: usize, room: usize) -> Option<i32>
-    ensures first { result ≡ call_refusal algorithm has_text text pwd room }
-    ensures none { IsNone result → (algorithm ≤ 2) × (2 * text ≤ room) }
+// The variant that a call asks for, or why the call is refused before the text is read.
+fn asked_variant(
+    algorithm: u32,
+    has_text: bool,
+    text: usize,
+    pwd: usize,
+    room: usize,
+) -> Result<Algorithm, i32>
+    ensures first { result_err result ≡ call_refusal algorithm has_text text pwd room }
+    ensures ok { IfOk result (λ variant. (algorithm_number variant ≡ algorithm) × (2 * text ≤ room)) }
 {
     if pwd > MAX_PWD_LEN {
-        Some(PWD_TOO_LONG)
-    } else if !has_text || text > MAX_TEXT_LEN {
-        Some(DECODING_FAIL)
-    } else if algorithm > 2 {
-        Some(INCORRECT_TYPE)
-    } else if room < 2 * text {
-        Some(MEMORY_ALLOCATION_ERROR)
-    } else {
-        None
+        return Err(PWD_TOO_LONG);
     }
+    if !has_text || text > MAX_TEXT_LEN {
+        return Err(DECODING_FAIL);
+    }
+    let Some(variant) = variant(algorithm) else {
+        return Err(INCORRECT_TYPE);
+    };
+    if room < 2 * text {
+        return Err(MEMORY_ALLOCATION_ERROR);
+    }
+    Ok(variant)
 }
 
 // The request that a text stands for.

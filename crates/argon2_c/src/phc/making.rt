@@ -62,7 +62,7 @@ fn params_refusal(
         Some(KEYID_TOO_LONG)
     } else if associated > most_associated {
         Some(AD_TOO_LONG)
-    } else if request.algorithm > 2 {
+    } else if variant(request.algorithm).is_none() {
         Some(NO_ALGORITHM)
     } else if request.version != 16 && request.version != 19 {
         Some(NO_VERSION)
@@ -238,7 +238,7 @@ fn value_of(
         unreachable!();
     };
     PasswordHash {
-        algorithm: variant(request.algorithm).ident(),
+        algorithm: variant(request.algorithm).unwrap().ident(),
         version: Some(request.version),
         params,
         salt: Some(salt),

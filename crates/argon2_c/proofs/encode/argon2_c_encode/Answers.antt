@@ -20,6 +20,7 @@ pub returns-clause-written : goal.returns-clause-written
 returns-clause-written c = λ _.
     let old = c.args.out.now in
     let front = c.as_bytes.result.now in
+    let begins = rw c.in-Some.ensures.found at c.front-front.ensures in
     let salt = strict_base64 c.args.salt.now in
     let tag = strict_base64 c.args.tag.now in
     let w1 = c.put-at.ensures.appends [] old refl refl in
@@ -30,7 +31,7 @@ returns-clause-written c = λ _.
     let w5 = c.put.ensures.appends text old w4.0 w4.1 in
     let is = append_assoc (front ++ salt) (codes "$") tag ∙ append_assoc front salt (36 ∷ tag)
     ∙ ap (λ f. f ++ (salt ++ 36 ∷ tag)) (c.as_bytes.ensures.value ∙ c.as_str-2.ensures.value)
-    ∙ c.front-front.ensures (salt ++ 36 ∷ tag) in
+    ∙ begins (salt ++ 36 ∷ tag) in
     let one : length text + 1 ≡ suc (length text) = omega arith in
     subst (λ (t : List ℕ). c.put.new.out ≡ t ++ 0 ∷ drop (suc (length t)) old) is
     (w5.1 ∙ append_assoc text (0 ∷ []) (drop (length (text ++ 0 ∷ [])) old)

@@ -4,4 +4,5 @@ use Rattle.argon2_c.proofs.encode.argon2_c_encoded_length.Goals as goal
 
 pub returns-clause-value : goal.returns-clause-value
 returns-clause-value c = λ salt tag variant s t.
-    omega (arith, length-text _ _ salt tag c.front-front.ensures, s, t, ap length c.as_str.ensures.value)
+    let front = rw c.in-Some.ensures.found at c.front-front.ensures in
+    omega (arith, length-text _ _ salt tag front, s, t, ap length c.as_str.ensures.value)
