@@ -3,7 +3,7 @@ use Rattle.argon2_rows.proofs.Imports.{AllByRecursion, eq_by_cmp, IfSome, IsUtf8
 use Rattle.argon2_rows.proofs.Imports.{bytes_eq-Decides, nat_list_cmp_total, get, get-insert, get-remove, insert, remove, same_entries_map, same_map, slice_cmp-IsAntisymmetric, Text}
 use Rattle.argon2_rows.proofs.Imports.{nat_cmp-IsAntisymmetric, bytes_eq, Texts, arith, [], ◌∷◌, map, T, not, Ordering, tied_itself, slice_cmp, get-entries, entries, entries-insert}
 use Rattle.argon2_rows.proofs.Imports.{entries_sorted, find, put, is_sorted, nat_cmp, ordering_then, plain, entry_cmp, Row, column, row_cmp, insert_entry, remove_entry, IsStorable}
-use Rattle.argon2_rows.proofs.Imports.{row_of, rows_of, IsLong, IsTrue, prefix_cmp, Index, Forward, from_key, order_of, sought, View, Advances, with_cursor, IsAfterAll, IsFoundAs}
+use Rattle.argon2_rows.proofs.Imports.{row_of, rows_of, IsLong, prefix_cmp, Index, Forward, from_key, order_of, sought, View, Advances, with_cursor, IsAfterAll, IsFoundAs, Later, Name}
 use Rattle.argon2_rows.proofs.Imports.{IsIndex, IsAccount, AreLines, ◌↔◌, entries-from_sorted, from_sorted, get-from_sorted, is_gt, alike_right, ⊤, doubt, unwrap_or}
 use Rattle.std.specs.FinMap.Entries.{below_all}
 use Rattle.sqlite_value.proofs.OrderLemmas.{value_cmp-Text}
@@ -144,9 +144,10 @@ module _ (old : View) (names : Texts) {mid : View} {k : List ℕ} {key : Row} (s
   placed : mid.cursors 1 ≡ Some (from_key plain (Text k ∷ []) (rows_of names))
   placed = grind arith
 
-  pub gives : {new : View} {met : Row} → Advances mid new 1 met true → (b : Bool) → (IsTrue b ↔ column met 0 ≡ column key 0)
-      → IsFoundAs names k (Some b) met
-  gives {met = met} moves b same =
+  pub gives : {new : View} {met : Row} → Advances mid new 1 met true
+      → (column met 0 ≡ column key 0 → IsFoundAs names k Name met)
+      × ((column met 0 ≡ column key 0 → ⊥) → IsFoundAs names k Later met)
+  gives {met = met} moves =
       let found = met_at k (entries names) met moves.0 (entries_sorted names) in grind (arith, get-entries names k)
 
   pub ends : {new : View} (met : Row) → Advances mid new 1 met false → IsAfterAll names k

@@ -10,6 +10,8 @@ pub use Rattle.sqlite_value.specs.Order.{Row}
 pub use Rattle.argon2_programs.specs.Lines.{AppendsFront}
 use Rattle.argon2_rows.specs.StoredTexts.{IsLine}
 use Rattle.argon2_rows.specs.Names.{Texts, slice_cmp, entries, get, nat_cmp}
+use Rattle.argon2_rows.specs.declared.rows.Found.{Found}
+pub use Rattle.argon2_rows.specs.declared.rows.Found.TheVariants.{End, Later, Name}
 use Rattle.argon2_rows.specs.declared.view.View.{View}
 use Rattle.argon2_rows.specs.declared.view.View.TheVariants.{Names, Export}
 pub use Rattle.argon2_rows.specs.declared.view.Written.{Written}
@@ -37,10 +39,10 @@ abbrev pub IsAfterAll : Texts → List ℕ → Type 0
 IsAfterAll names name = (get names name ≡ None) × HasNoneAfter names name
 
 -- the name has a text, and this is its row, or it has none, or comes after all names
-abbrev pub IsFoundAs : Texts → List ℕ → Option Bool → Row → Type 0
-IsFoundAs names name (Some true) row = (text : List ℕ) × (get names name ≡ Some text) × (row ≡ row_of (name, text))
-IsFoundAs names name (Some false) row = get names name ≡ None
-IsFoundAs names name None row = IsAfterAll names name
+abbrev pub IsFoundAs : Texts → List ℕ → Found → Row → Type 0
+IsFoundAs names name Name row = (text : List ℕ) × (get names name ≡ Some text) × (row ≡ row_of (name, text))
+IsFoundAs names name Later row = get names name ≡ None
+IsFoundAs names name End row = IsAfterAll names name
 
 -- each text is one line
 abbrev pub AreLines : Texts → Type 0

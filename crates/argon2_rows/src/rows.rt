@@ -60,16 +60,27 @@ fn is_account(row: &Row) -> bool
     str::from_utf8(name).is_ok() && str::from_utf8(text).is_ok()
 }
 
-// Whether the tree has a row of the name, which is then in `row`: `None` if no later name has one either.
+// What a seek by a name finds.
+#[derive(Clone, Copy)]
+pub(crate) enum Found {
+    // The row of the name.
+    Name,
+    // The row of a later name: this one has none.
+    Later,
+    // Neither this name nor a later one has a row.
+    End,
+}
+
+// Seeks the row of the name. If the tree has it, it is then in `row`.
 pub(crate) fn find<S: Store>(
     store: &mut S,
     row: &mut Row,
     key: &mut Row,
     name: &str,
-) -> Result<Option<bool>, StoreError>
+) -> Result<Found, StoreError>
     requires { IsHonest S.Store store.old → (S.Store.view store.old).shape 0 ≡ Index plain }
-    ensures found { (names : Texts) → IfOk result (λ is. IsHonest S.Store store.new →
-        (S.Store.view store.old).trees 0 ≡ rows_of names → IsFoundAs names name.now is row.new) }
+    ensures found { (names : Texts) → IfOk result (λ found. IsHonest S.Store store.new →
+        (S.Store.view store.old).trees 0 ≡ rows_of names → IsFoundAs names name.now found row.new) }
     ensures same { OnOk result (IsHonest S.Store store.new → S.Store.view store.new
         ≡ record (S.Store.view store.old) { cursors = (S.Store.view store.new).cursors }) }
     ensures sound { OnOk result (IsHonest S.Store store.new →
@@ -85,9 +96,13 @@ pub(crate) fn find<S: Store>(
     key.push(ValueRef::Text(name.as_bytes()))?;
     store.seek(1, ACCOUNTS, key, Direction::Forward)?;
     if !store.next(1, row)? {
-        return Ok(None);
+        return Ok(Found::End);
     }
-    Ok(Some(is_same(row.get(0), key.get(0))))
+    if is_same(row.get(0), key.get(0)) {
+        Ok(Found::Name)
+    } else {
+        Ok(Found::Later)
+    }
 }
 
 // The text in the row of a name.
@@ -128,8 +143,8 @@ pub fn look_up<S: Store>(
         Writes S.Store store.old store.new names names ⊥ (done_of result) }
 {
     match find(store, row, key, name)? {
-        Some(true) => Ok(Some(copy_text(alloc, row)?)),
-        _ => Ok(None),
+        Found::Name => Ok(Some(copy_text(alloc, row)?)),
+        Found::Later | Found::End => Ok(None),
     }
 }
 

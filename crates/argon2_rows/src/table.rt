@@ -7,7 +7,7 @@ ghost use Rattle.argon2_rows.specs.Names.{AddsEach, Store, Texts, add_error_text
 ghost use Rattle.argon2_rows.specs.Rows.{AreTexts};
 ghost use Rattle.argon2_rows.specs.Table.{EndsRead, Finishes, HasBegun, IsHonest, IsKept, IsLong, Sees, StaysQuiet, Writes, written_of, plain, Index};
 
-use crate::rows::{ACCOUNTS, fill_row, find};
+use crate::rows::{ACCOUNTS, Found, fill_row, find};
 use crate::text::StoredText;
 use sqlite_trees::error::StoreError;
 use sqlite_trees::store::Store;
@@ -141,8 +141,9 @@ pub fn add_each<S: Store>(
         // A name that comes after the last one, and that after all others, is not looked up.
         if !(is_last && last.cmp(&name.as_bytes()).is_lt()) {
             match find(store, row, key, name)? {
-                Some(true) => return Err(AddError::Taken(k)),
-                found => is_last = found.is_none(),
+                Found::Name => return Err(AddError::Taken(k)),
+                Found::Later => is_last = false,
+                Found::End => is_last = true,
             }
         }
         insert(store, row, name, text.as_str())?;

@@ -4,7 +4,7 @@ use Rattle.argon2_rows.proofs.AddLemmas.{add_last}
 use Rattle.argon2_rows.proofs.RowLemmas.{get-at, texts_changed}
 use Rattle.argon2_rows.proofs.TableLemmas.{err_is, keeps_index, writes_then}
 use Rattle.argon2_rows.proofs.table.add_each.Goals as goal
-use Rattle.argon2_rows.proofs.table.add_each.Goals.{After-insert, then-is_last, else-is_last, then-not-is_lt+in_ok-found+in_default, else-not-is_lt}
+use Rattle.argon2_rows.proofs.table.add_each.Goals.{After-insert, then-is_last, else-is_last, then-not-is_lt+in_ok-find+in-Later, then-not-is_lt+in_ok-find+in-End, else-not-is_lt}
 
 -- no name after a new one has a text if none had one
 none_after_new : (before : Texts) (name text : List ℕ) → HasNoneAfter before name
@@ -34,7 +34,8 @@ added g c before texts sees =
     let looked : Writes g.S.Store c.loop-k.store c.if-not-is_lt.store mid mid ⊥ (Ok tt)
     × (IsHonest g.S.Store c.if-not-is_lt.store → (get mid c.index-new-k.result.0.now ≡ None)
     × (IsTrue c.if-not-is_lt.is_last → HasNoneAfter mid c.index-new-k.result.0.now)) = elim c.if-not-is_lt.branch [
-      | then-not-is_lt+in_ok-found+in_default w ↦ let found = w.in_ok-found.ensures.found mid in search arith
+      | then-not-is_lt+in_ok-find+in-Later w ↦ let found = w.in_ok-find.ensures.found mid in search arith
+      | then-not-is_lt+in_ok-find+in-End w ↦ let found = w.in_ok-find.ensures.found mid in search arith
       | else-not-is_lt w ↦ elim c.if-is_last.branch [
         | then-is_last v ↦ search (arith, nat_list_cmp_total.trans)
         | else-is_last v ↦ absurd cc
@@ -53,18 +54,18 @@ pub loop-k-init : goal.loop-k-init
 loop-k-init g c =
     (c.requires, λ before texts sees. (before, texts, λ clean. (refl, λ is. absurd cc), search arith))
 
-pub returns-in_err-found : goal.returns-in_err-found
-returns-in_err-found g c before texts sees =
+pub returns-in_err-find : goal.returns-in_err-find
+returns-in_err-find g c before texts sees =
     let (mid, fine, all, wrote) = c.loop-k.invariant.1 before texts sees in
-    let why = c.in_err-found.ensures in
+    let why = c.in_err-find.ensures in
     rw (err_is c.from_residual.result _ c.from_residual.ensures.1)
     (mid, fine, writes_then {Q = ⊥} wrote (search (arith, why.err, why.cause)) (λ never. absurd never), λ clean. tt)
 
-pub returns-in-Some-true : goal.returns-in-Some-true
-returns-in-Some-true g c before texts sees =
+pub returns-in-Name : goal.returns-in-Name
+returns-in-Name g c before texts sees =
     let (mid, fine, all, wrote) = c.loop-k.invariant.1 before texts sees in
     let within : c.loop-k.k < length c.args.new.now = c.loop-k-test.true in
-    let found = c.in_ok-found.ensures.found mid in (
+    let found = c.in_ok-find.ensures.found mid in (
       mid,
       fine,
       writes_then wrote (search arith) (λ never. absurd never),
