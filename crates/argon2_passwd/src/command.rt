@@ -33,10 +33,16 @@ pub enum Task<'a> {
     Edit(EditTask, &'a str),
     /// `list FILE` or `export FILE`: what the file has.
     Show(View),
-    /// `import FILE`: names with their texts are added, also texts of other schemes if this is true.
-    Import(bool),
+    /// `import FILE`: names with their texts are added.
+    Import {
+        /// Texts of other schemes are added too.
+        any_text: bool,
+    },
     /// `import --skip FILE`: the same, but lines that may not be added are passed over.
-    ImportOthers(bool),
+    ImportOthers {
+        /// Texts of other schemes are added too.
+        any_text: bool,
+    },
     /// `check-file FILE`: whether each row of the file is a name with a text.
     CheckFile,
 }
@@ -45,7 +51,7 @@ impl Task<'_> {
     // What is done if there is no file.
     pub(crate) fn if_absent(&self) -> IfAbsent {
         match self {
-            Task::Edit(EditTask::Register, _) | Task::Import(_) | Task::ImportOthers(_) =>
+            Task::Edit(EditTask::Register, _) | Task::Import { .. } | Task::ImportOthers { .. } =>
                 IfAbsent::Make,
             _ => IfAbsent::Fail,
         }

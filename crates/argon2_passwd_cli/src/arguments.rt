@@ -130,9 +130,9 @@ fn command<'a>(alloc: Global, matches: &Matches<'a>) -> Result<Command<'a>, Refu
     let words = matches.get_all(alloc, "COMMAND")?;
     let any_text = matches.has("any-text");
     let import = if matches.has("skip") {
-        Task::ImportOthers(any_text)
+        Task::ImportOthers { any_text }
     } else {
-        Task::Import(any_text)
+        Task::Import { any_text }
     };
     match action(import, words.as_slice()) {
         Some(action) => Ok(Command { options, action }),

@@ -56,7 +56,7 @@ fn main(rt: HostRuntime) -> ExitCode {
 // The most bytes of standard input that a command takes: two lines, or all lines of an import.
 fn most_input(command: &Command<'_>) -> u64 {
     match command.action {
-        Action::OnFile(_, Task::Import(_) | Task::ImportOthers(_)) => u64::MAX,
+        Action::OnFile(_, Task::Import { .. } | Task::ImportOthers { .. }) => u64::MAX,
         _ => 2 * LONGEST_LINE,
     }
 }

@@ -59,8 +59,8 @@ pub(super) fn serve<P: Outside, R: BufRead, W: Write>(
                 Task::Verify(name) => verify(alloc, outside, access, name, input, output),
                 Task::Edit(change, name) => edit(alloc, outside, access, change, name, input),
                 Task::Show(view) => show(outside, access, view, output),
-                Task::Import(any_text) => import(alloc, outside, access, any_text, input),
-                Task::ImportOthers(any_text) => {
+                Task::Import { any_text } => import(alloc, outside, access, any_text, input),
+                Task::ImportOthers { any_text } => {
                     import_others(alloc, outside, access, any_text, input)
                 }
                 Task::CheckFile => check_file(outside, access),
