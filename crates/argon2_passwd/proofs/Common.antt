@@ -14,7 +14,7 @@ pub use Rattle.argon2_rows.proofs.TableLemmas.{err_is, quiet_then}
 pub use Rattle.argon2_programs.specs.Locks.{behind_lock, without_lock}
 pub use Rattle.argon2_store.specs.AccountFile.{HasCause, HasFailedBy, IsClosed, Reads}
 pub use Rattle.argon2_passwd.specs.Answers.{AccountFile, AddsEntries, additions, answer_without_text, Appends, AreSaid, behind, Bor, database_of, entries_in, entry_of, entry_or_flaw}
-pub use Rattle.argon2_passwd.specs.Answers.{FileError, Flaw, flaws_from, get, Ghosts, has_name, HasNames, has_text, IsHonest, ReadsText, ReportsFirst, IsOpened, IsOpenFor}
+pub use Rattle.argon2_passwd.specs.Answers.{FileError, FileUse, Flaw, flaws_from, get, Ghosts, has_name, HasNames, has_text, IsHonest, ReadsText, ReportsFirst, IsOpened, IsOpenFor}
 pub use Rattle.argon2_passwd.specs.Answers.{Keeps, LineValue, line_has_name, Looks, NameTaken, new_line, new_lines, next_salt, file_failure, ReadsPassword, option_map, password_of, phc_of, scheme_of}
 pub use Rattle.argon2_passwd.specs.Answers.{AdmitsStored, SaysValue, Serves, Stays, Texts, value_after}
 pub use Rattle.argon2_passwd.specs.Lines.{IsEntryOrFlaw, MayBeAdded, parts_now, unmarked}
@@ -65,20 +65,22 @@ refuses_change policy first second stored before after why (inr (admits, making,
 pub no_refusal : (e : FileError) → is_refusal e ≡ false → status_of (file_failure e) ≡ 3
 no_refusal e file = grind arith
 
-module _ {S : Type 0} {g : Ghosts S} {Has : List ℕ → Texts → Type 0} where
+module _ {S : Type 0} {g : Ghosts S} where
   -- a file was opened, used so and closed
-  pub opened_for : {path : List ℕ} {Does : AccountFile S g → AccountFile S g → Type 0} {Next : S → Type 0}
-      (before after : AccountFile S g) → IsOpened Has path before → Does before after → Next (database_of after)
-      → IsOpenFor g Has path Does Next
+  pub opened_for : {path : List ℕ} {Does : AccountFile S g → AccountFile S g → Type 0} {Next : FileUse S → Type 0}
+      (before after : AccountFile S g) → IsOpened before → Does before after
+      → Next (record { path = path; first = database_of before; last = database_of after }) → IsOpenFor g path Does Next
   opened_for before after opened does next =
       record { before = before; after = after; opened = opened; does = does; next = next }
 
-  -- the same, with what follows of the store that it left
-  pub looked_then : {path : List ℕ} {Does : AccountFile S g → AccountFile S g → Type 0} {Next After : S → Type 0}
-      (looked : IsOpenFor g Has path Does Next) → After (database_of looked.after) → IsOpenFor g Has path Does After
+  -- the same, with what follows of this use
+  pub looked_then : {path : List ℕ} {Does : AccountFile S g → AccountFile S g → Type 0} {Next After : FileUse S → Type 0}
+      (looked : IsOpenFor g path Does Next)
+      → After (record { path = path; first = database_of looked.before; last = database_of looked.after })
+      → IsOpenFor g path Does After
   looked_then looked next = opened_for looked.before looked.after looked.opened looked.does next
 
   -- a text that was read, by its bytes
-  pub looked_as : {path : List ℕ} (name : List ℕ) {Next : S → Type 0} {o p : Option (List ℕ)} → o ≡ p
-      → ReadsText g Has path name (Ok o) Next → ReadsText g Has path name (Ok p) Next
-  looked_as {path} name {Next} same looked = subst (λ x. ReadsText g Has path name (Ok x) Next) same looked
+  pub looked_as : {path : List ℕ} (name : List ℕ) {Next : FileUse S → Type 0} {o p : Option (List ℕ)} → o ≡ p
+      → ReadsText g path name (Ok o) Next → ReadsText g path name (Ok p) Next
+  looked_as {path} name {Next} same looked = subst (λ x. ReadsText g path name (Ok x) Next) same looked

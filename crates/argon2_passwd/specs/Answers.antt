@@ -1,5 +1,5 @@
 -- What the program answers. The words that the contracts share with it are passed on.
-use Rattle.std.specs.Prelude.{◌≡◌, ◌≢◌, ◌⊎◌, ℕ, false, Bool, ◌+◌, IsTrue, List, [], ◌∷◌, ◌++◌, Option, Some, None, IfSome, Result, Ok, Err, IfOk, IsErrAnd, if◌then◌else◌, IsSomeAnd, take, unwrap_or}
+use Rattle.std.specs.Prelude.{◌≡◌, ◌≢◌, ◌⊎◌, ℕ, All, false, Bool, ◌+◌, List, [], ◌∷◌, ◌++◌, Option, Some, None, IfSome, Result, Ok, Err, IfOk, IsErrAnd, if◌then◌else◌, IsSomeAnd, take, unwrap_or}
 use Rattle.std.specs.Io.BufRead.{drop_through}
 pub use Rattle.std.specs.Option.{option_map}
 use Rattle.std.specs.Result.{result_map_both}
@@ -32,7 +32,7 @@ use Rattle.argon2_passwd.specs.declared.command.EditTask.TheVariants.{Register, 
 pub use Rattle.argon2_passwd.specs.Passwords.{IsNotNew, IsUnread, password_of}
 pub use Rattle.argon2_passwd.specs.Salts.{IsSalt, next_salt}
 pub use Rattle.argon2_passwd.specs.Failures.{Denial, denial_line, Failure, FileError, IsDenialOf, IsOfWrite, LineError, Params, is_denial, is_refusal, denial_failure, file_failure, lines_failure, status_by, status_of}
-use Rattle.argon2_passwd.specs.Failures.{File, Line as AtLine, Name, Passed}
+use Rattle.argon2_passwd.specs.Failures.{Line as AtLine, Name, Passed}
 pub use Rattle.argon2_passwd.specs.Lines.{AreSaid, Bor, Flaw, ReportsFirst, LineValue, Phc, IsPhcText, entries_in, entry_or_flaw, flaws_from, has_name, has_text, line_has_name, new_line, new_lines, scheme_of}
 use Rattle.argon2_passwd.specs.Lines.{Taken, name_flaw}
 use Rattle.argon2_passwd.specs.declared.outside.News.{News}
@@ -76,6 +76,12 @@ IsSecret Holds None secret = secret ≡ None
 IsSecret Holds (Some path) secret = IsSomeAnd secret (Holds path.now)
 
 -- ---- accounts in a file
+
+-- a file that was opened at a path and closed, by its store at both times
+pub record FileUse (S : Type 0) : Type 0 where
+  pub path : List ℕ
+  pub first : S
+  pub last : S
 
 -- what an input has behind its first line
 abbrev pub behind : Known → Known
@@ -130,9 +136,9 @@ module _ {S : Type 0} {g : Ghosts S} where
       ⊎ ((e : FileError) × (passed : List (ℕ × Flaw)) × AddsEntries (Err e) ls passed before after
       × (failure ≡ file_failure (if is_refusal e then Damaged else e)))))
 
-  -- a file at a path that was opened, with its names
-  abbrev pub IsOpened : (List ℕ → Texts → Type 0) → List ℕ → AccountFile S g → Type 0
-  IsOpened Has path file = (names : Texts) × Has path names × IsReady names file
+  -- a file that was opened, with its names
+  abbrev pub IsOpened : AccountFile S g → Type 0
+  IsOpened file = (names : Texts) × IsReady names file
 
 -- what an accepted login did whose fresh text is not written
 abbrev pub answer_without_text : Accepted → Accepted
@@ -191,73 +197,82 @@ abbrev pub UsesNoFile : (List ℕ → Type 0) → PolicyValue → Action → Out
 UsesNoFile Gives policy what result input old new = HasReply Gives policy what input (λ line. WritesLine line result old new)
     ⊎ (Keeps old new × IsErrAnd result (λ failure. (status_of failure ≡ 3) ⊎ IsUnfit policy what input failure))
 
-module _ {S : Type 0} (g : Ghosts S) (Has : List ℕ → Texts → Type 0) where
-  -- the file at a path was opened, used so, and closed with this store
-  pub record IsOpenFor (path : List ℕ) (Does : AccountFile S g → AccountFile S g → Type 0) (Next : S → Type 0) : Type 0 where
+module _ {S : Type 0} (g : Ghosts S) where
+  -- the store of a file that was opened
+  abbrev pub IsOpenedStore : S → Type 0
+  IsOpenedStore store = (file : AccountFile S g) × IsOpened file × (database_of file ≡ store)
+
+  -- each use began with a file that was opened
+  abbrev pub BeginOpened : List (FileUse S) → Type 0
+  BeginOpened uses = All (λ used. IsOpenedStore used.first) uses
+
+  -- the file at a path was opened, used so, and closed
+  pub record IsOpenFor (path : List ℕ) (Does : AccountFile S g → AccountFile S g → Type 0) (Next : FileUse S → Type 0)
+      : Type 0 where
     pub before : AccountFile S g
     pub after : AccountFile S g
-    pub opened : IsOpened Has path before
+    pub opened : IsOpened before
     pub does : Does before after
-    pub next : Next (database_of after)
+    pub next : Next (record { path = path; first = database_of before; last = database_of after })
 
-  -- all that was done with the file at a path: it was opened, used so, and closed
-  abbrev pub OpensOnce : List ℕ → (AccountFile S g → AccountFile S g → Type 0) → (List S → Type 0) → Type 0
-  OpensOnce path Does Closed = IsOpenFor path Does (λ last. Closed (last ∷ []))
+  -- all that was done with files: the one at a path was opened, used so, and closed
+  abbrev pub OpensOnce : List ℕ → (AccountFile S g → AccountFile S g → Type 0) → (List (FileUse S) → Type 0) → Type 0
+  OpensOnce path Does Closed = IsOpenFor path Does (λ used. Closed (used ∷ []))
 
   -- all that was done there is one call, and this result tells of its answer
-  abbrev pub EditsOnce : List ℕ → NamedEdit → (List S → Type 0) → Outcome → Type 0
+  abbrev pub EditsOnce : List ℕ → NamedEdit → (List (FileUse S) → Type 0) → Outcome → Type 0
   EditsOnce path change Closed result =
       (done : Result (Unit {0}) FileError) × (result ≡ outcome_by file_failure done)
       × OpensOnce path (Serves (change ∷ []) done) Closed
 
-  -- the text of a name was read in the file at a path, which was closed with this store
-  abbrev pub ReadsText : List ℕ → List ℕ → Result (Option (List ℕ)) FileError → (S → Type 0) → Type 0
+  -- the text of a name was read in the file at a path, a use with this fact
+  abbrev pub ReadsText : List ℕ → List ℕ → Result (Option (List ℕ)) FileError → (FileUse S → Type 0) → Type 0
   ReadsText path name found = IsOpenFor path (λ before after. (names : Texts) → HasNames before names
       → Stays (error_of found) names before after
       × IfOk found (λ text. IsHonest g (database_of after) → get names name ≡ text))
 
   -- the text of a name can't be read
-  abbrev pub FailsToRead : List ℕ → List ℕ → (List S → Type 0) → Failure → Type 0
+  abbrev pub FailsToRead : List ℕ → List ℕ → (List (FileUse S) → Type 0) → Failure → Type 0
   FailsToRead path name Closed failure =
       (e : FileError) × (failure ≡ file_failure e) × ReadsText path name (Err e) (λ read. Closed (read ∷ []))
 
   -- a call on a name is refused: its text can't be read, or what the name has refuses the call
-  abbrev pub FailsOnName : (Option (List ℕ) → Denial → Type 0) → List ℕ → List ℕ → (List S → Type 0) → Failure → Type 0
+  abbrev pub FailsOnName : (Option (List ℕ) → Denial → Type 0) → List ℕ → List ℕ → (List (FileUse S) → Type 0) → Failure → Type 0
   FailsOnName Why path name Closed failure =
       ((o : Option (List ℕ)) × IsDenied Why o failure × ReadsText path name (Ok o) (λ read. Closed (read ∷ [])))
       ⊎ FailsToRead path name Closed failure
 
-module _ {S : Type 0} (g : Ghosts S) (Has : List ℕ → Texts → Type 0) (Gives : List ℕ → Type 0) where
+module _ {S : Type 0} (g : Ghosts S) (Gives : List ℕ → Type 0) where
   -- A login with the password was all that was done with the file at a path, with this result. If the text accepts the
   -- password, none is replaced, or a call to replace it ended so.
-  abbrev pub IsLogin : PolicyValue → List ℕ → List ℕ → List ℕ → Result Accepted Failure → (List S → Type 0) → Type 0
+  abbrev pub IsLogin : PolicyValue → List ℕ → List ℕ → List ℕ → Result Accepted Failure → (List (FileUse S) → Type 0) → Type 0
   IsLogin policy path name password result Closed =
-      IsErrAnd result (FailsOnName g Has (Denies policy password) path name Closed)
+      IsErrAnd result (FailsOnName g (Denies policy password) path name Closed)
       ⊎ ((old drawn : List ℕ) × (v w : Phc) × (did : Accepted) × IsSalt Gives drawn × SaysValue (Some old) v
-      × LogsIn policy password drawn v did w × ReadsText g Has path name (Ok (Some old))
+      × LogsIn policy password drawn v did w × ReadsText g path name (Ok (Some old))
       (λ read. ((result ≡ Ok (answer_without_text did)) × Closed (read ∷ []))
       ⊎ ((done : Outcome) × (result ≡ login_by did done)
-      × EditsOnce g Has path (replacing name old (phc_text w)) (λ more. Closed (read ∷ more)) done)))
+      × EditsOnce g path (replacing name old (phc_text w)) (λ more. Closed (read ∷ more)) done)))
 
   -- A change of this kind was all that was done with the file at a path, by the passwords of the input and with this
   -- result. That the file can't be opened again is no refusal.
-  abbrev pub IsChange : PolicyValue → List ℕ → EditTask → List ℕ → Known → (List S → Type 0) → Outcome → Type 0
+  abbrev pub IsChange : PolicyValue → List ℕ → EditTask → List ℕ → Known → (List (FileUse S) → Type 0) → Outcome → Type 0
   IsChange policy path Register name input Closed result = (name_flaw name ≡ None)
-      × (v : Phc) × IsNewText Gives policy input v × EditsOnce g Has path (adding name (phc_text v)) Closed result
+      × (v : Phc) × IsNewText Gives policy input v × EditsOnce g path (adding name (phc_text v)) Closed result
   IsChange policy path Change name input Closed result = ReadsPassword (λ first. ReadsPassword (λ second. (second ≢ []) × (
-      IsErrAnd result (FailsOnName g Has (RefusesChange policy first second) path name Closed)
+      IsErrAnd result (FailsOnName g (RefusesChange policy first second) path name Closed)
       ⊎ ((old drawn : List ℕ) × (w : Phc) × IsSalt Gives drawn × AdmitsStored policy first (Some old)
-      × IsFresh policy.target second drawn w × ReadsText g Has path name (Ok (Some old))
-      (λ read. EndsOrFailsToOpen (EditsOnce g Has path (replacing name old (phc_text w)) (λ more. Closed (read ∷ more)))
+      × IsFresh policy.target second drawn w × ReadsText g path name (Ok (Some old))
+      (λ read. EndsOrFailsToOpen (EditsOnce g path (replacing name old (phc_text w)) (λ more. Closed (read ∷ more)))
       (Closed (read ∷ [])) result)))) (behind input)) input
   IsChange policy path Set name input Closed result =
-      (v : Phc) × IsNewText Gives policy input v × EditsOnce g Has path (setting name (phc_text v)) Closed result
-  IsChange policy path Remove name input Closed result = EditsOnce g Has path (removing name) Closed result
-  IsChange policy path Lock name input Closed result = EditsOnce g Has path (locking name) Closed result
-  IsChange policy path Unlock name input Closed result = EditsOnce g Has path (unlocking name) Closed result
+      (v : Phc) × IsNewText Gives policy input v × EditsOnce g path (setting name (phc_text v)) Closed result
+  IsChange policy path Remove name input Closed result = EditsOnce g path (removing name) Closed result
+  IsChange policy path Lock name input Closed result = EditsOnce g path (locking name) Closed result
+  IsChange policy path Unlock name input Closed result = EditsOnce g path (unlocking name) Closed result
 
   -- all that was done with the file that is named, and how it ended
-  abbrev pub UsesFile : PolicyValue → Action → Outcome → Known → Known → Known → (List S → Type 0) → Type 0
+  abbrev pub UsesFile : PolicyValue → Action → Outcome → Known → Known → Known → (List (FileUse S) → Type 0) → Type 0
   UsesFile policy (OnFile path (Verify name)) result input old new Closed =
       (login : Result Accepted Failure) × WritesLogin login result old new
       × ReadsPassword (λ password. IsLogin policy path.now name.now password login Closed) input
@@ -265,28 +280,28 @@ module _ {S : Type 0} (g : Ghosts S) (Has : List ℕ → Texts → Type 0) (Give
       Keeps old new × IsChange policy path.now act name.now input Closed result
   UsesFile policy (OnFile path (Show view)) result input old new Closed =
       (done : Result (Unit {0}) LineError) × (result ≡ outcome_by lines_failure done)
-      × OpensOnce g Has path.now (λ before after. (names : Texts) → HasNames before names
+      × OpensOnce g path.now (λ before after. (names : Texts) → HasNames before names
       → Stays (error_of (read_by done)) names before after
       × (IsHonest g (database_of after) → WritesLines view names old new done)) Closed
   UsesFile policy (OnFile path (Import any_text)) result input old new Closed =
       Keeps old new × ReadsLines any_text input (λ said.
-      (flaws_from 1 said ≡ []) × OpensOnce g Has path.now (AddsLines result (entries_in said)) Closed)
+      (flaws_from 1 said ≡ []) × OpensOnce g path.now (AddsLines result (entries_in said)) Closed)
   UsesFile policy (OnFile path (ImportOthers any_text)) result input old new Closed =
       Keeps old new × ReadsLines any_text input (λ said.
-      OpensOnce g Has path.now (AddsOthers result said) Closed)
+      OpensOnce g path.now (AddsOthers result said) Closed)
   UsesFile policy (OnFile path CheckFile) result input old new Closed =
-      Keeps old new × (result ≡ Ok tt) × OpensOnce g Has path.now (λ before after. after ≡ before) Closed
+      Keeps old new × (result ≡ Ok tt) × OpensOnce g path.now (λ before after. after ≡ before) Closed
   UsesFile policy _ result input old new Closed = ⊥
 
   -- how an action ended: its file was used, or no file was opened
-  abbrev pub EndsAction : PolicyValue → Action → Outcome → Known → Known → Known → (List S → Type 0) → Type 0
+  abbrev pub EndsAction : PolicyValue → Action → Outcome → Known → Known → Known → (List (FileUse S) → Type 0) → Type 0
   EndsAction policy what result input old new Closed = UsesFile policy what result input old new Closed
       ⊎ (Closed [] × UsesNoFile Gives policy what result input old new)
 
   -- How a command ended under the options and their secrets, if these make a policy. A failure that is no refusal may
   -- come before.
   abbrev pub EndsCommand : (List ℕ → List ℕ → Type 0) → Options → Action → Outcome → Known → Known → Known
-      → (List S → Type 0) → Type 0
+      → (List (FileUse S) → Type 0) → Type 0
   EndsCommand Holds options what result input old new Closed =
       (Closed [] × IsErrAnd result (λ failure. status_of failure ≡ 3) × Keeps old new)
       ⊎ ((secret prior : Option (List ℕ)) × IsSecret Holds options.secret_file secret

@@ -33,8 +33,8 @@ pub enum RowCheck {
 
 /// Where the program finds the secret, random bytes and accounts. One file is open at a time.
 pub trait Outside {
-    ghost use Rattle.std.specs.Prelude.{◌≡◌, ◌++◌, ◌∷◌, [], ℕ, List, IfErr, IfOk, OnErr, OnOk};
-    ghost use Rattle.argon2_passwd.specs.Answers.{IsOpened, Texts, status_of};
+    ghost use Rattle.std.specs.Prelude.{◌≡◌, ◌++◌, ◌∷◌, [], ℕ, List, IfErr, IfOk, OnErr};
+    ghost use Rattle.argon2_passwd.specs.Answers.{FileUse, IsOpened, database_of, status_of};
     ghost use Rattle.argon2_passwd.specs.declared.outside.News.{News};
 
     /// The store of a file with accounts.
@@ -46,14 +46,11 @@ pub trait Outside {
     // The system gives these random bytes.
     ghost gives: { List ℕ → Type 0 };
 
-    // The file at a path has these names with their texts.
-    ghost keeps: { List ℕ → Texts → Type 0 };
+    // The files that were opened and closed, in order, while none is open.
+    ghost closed: { Self → List (FileUse Self.File) → Type 0 };
 
-    // The stores of the files that were closed, in order, while none is open.
-    ghost closed: { Self → List Self.File → Type 0 };
-
-    // The same while one is open.
-    ghost opened: { Self → List Self.File → Type 0 };
+    // The same while the file at this path is open, which was opened with this store.
+    ghost opened: { Self → List (FileUse Self.File) → List ℕ → Self.File → Type 0 };
 
     // What is said of the file that was opened.
     ghost news: { Self → News };
@@ -92,23 +89,25 @@ pub trait Outside {
         if_absent: IfAbsent,
         rows: RowCheck,
     ) -> Result<AccountFile<Self::File>, Failure>
-        requires { (before : List Self.File) × closed self.old before }
-        ensures ready { IfOk result (IsOpened keeps path.now) }
+        requires { (uses : List (FileUse Self.File)) × closed self.old uses }
+        ensures ready { IfOk result IsOpened }
         ensures failed { IfErr result (λ failure. status_of failure ≡ 3) }
-        ensures opened { OnOk result
-            ((before : List Self.File) → closed self.old before → opened self.new before) }
-        ensures untouched { OnErr result
-            ((before : List Self.File) → closed self.old before → closed self.new before) };
+        ensures opened { IfOk result (λ file. (uses : List (FileUse Self.File)) →
+            closed self.old uses → opened self.new uses path.now (database_of file)) }
+        ensures untouched { OnErr result ((uses : List (FileUse Self.File)) →
+            closed self.old uses → closed self.new uses) };
 
     /// Closes the file, and copies its log into it.
     fn close(&mut self, store: Self::File)
-        requires { (before : List Self.File) × opened self.old before }
-        ensures { (before : List Self.File) → opened self.old before
-            → closed self.new (before ++ store ∷ []) };
+        requires { (uses : List (FileUse Self.File)) × (path : List ℕ) × (first : Self.File)
+            × opened self.old uses path first }
+        ensures { (uses : List (FileUse Self.File)) (path : List ℕ) (first : Self.File) →
+            opened self.old uses path first →
+            closed self.new (uses ++ record { path = path; first = first; last = store } ∷ []) };
 
     /// Waits a moment for another process that has the file open, unless the command has waited for 5 seconds.
     fn pause(&mut self) -> bool
-        ensures { (before : List Self.File) → closed self.old before → closed self.new before };
+        ensures { (uses : List (FileUse Self.File)) → closed self.old uses → closed self.new uses };
 
     /// What is said of the file that was opened.
     fn news(&self) -> News

@@ -46,7 +46,7 @@ pub fn run<P: Outside, R: BufRead, W: Write, E: Write>(
     requires { P.closed outside.old [] }
     ensures status { result ≤ 4 }
     ensures ended { (ended : Outcome) × (result ≡ status_by ended)
-        × EndsCommand P.File.Store P.keeps P.gives P.holds command.entry.options
+        × EndsCommand P.File.Store P.gives P.holds command.entry.options
         command.entry.action ended (R.remaining input.old) (W.contents output.old)
         (W.contents output.new) (P.closed outside.new)
         × WritesErrors command.entry.options command.entry.action (P.news outside.new) ended
@@ -162,7 +162,7 @@ fn answer<P: Outside, R: BufRead, W: Write>(
     output: &mut W,
 ) -> Result<(), Failure>
     requires { P.closed outside.old [] }
-    ensures { EndsCommand P.File.Store P.keeps P.gives P.holds command.now.options
+    ensures { EndsCommand P.File.Store P.gives P.holds command.now.options
         command.now.action result (R.remaining input.old) (W.contents output.old)
         (W.contents output.new) (P.closed outside.new) }
 {

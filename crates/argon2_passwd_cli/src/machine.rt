@@ -104,6 +104,7 @@ impl<'a> Machine<'a> {
 
 impl Outside for Machine<'_> {
     ghost use Rattle.std.specs.Prelude.{◌≤◌, length, ⊤};
+    ghost use Rattle.argon2_passwd.specs.Answers.{BeginOpened, IsOpenedStore};
 
     type File = FileStore<FileFrom<Wary>>;
 
@@ -113,12 +114,13 @@ impl Outside for Machine<'_> {
     // Of random bytes nothing is known.
     ghost gives = { λ seed. ⊤ };
 
-    // Of names nothing is known.
-    ghost keeps = { λ path names. ⊤ };
+    // The first store of each use is that of some opened file with names. Paths, last stores and the number of uses may be any.
+    ghost closed = { λ machine uses.
+        BeginOpened ⟦<FileStore<FileFrom<Wary>> as Store>⟧ uses };
 
-    ghost closed = { λ machine files. ⊤ };
-
-    ghost opened = { λ machine files. ⊤ };
+    ghost opened = { λ machine uses path first.
+        BeginOpened ⟦<FileStore<FileFrom<Wary>> as Store>⟧ uses
+        × IsOpenedStore ⟦<FileStore<FileFrom<Wary>> as Store>⟧ first };
 
     ghost news = { λ machine. machine.news };
 

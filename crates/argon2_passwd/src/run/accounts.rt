@@ -1,7 +1,7 @@
 //! Accounts in a file.
 
-ghost use Rattle.std.specs.Prelude.{◌≡◌, ◌∷◌, ◌⊎◌, [], ℕ, List, Option, Some, Ok, IfErr, IfOk, MatchResult, OnErr, OnOk, map, string_bytes};
-ghost use Rattle.argon2_passwd.specs.Answers.{AddsLines, EndsOrFailsToOpen, FailsToRead, IsLogin, ReadsText, IsOpened, IsSalt, EndsAction, entry_of, drawn_salt, option_map, policy_value, status_of};
+ghost use Rattle.std.specs.Prelude.{◌≡◌, ◌∷◌, ◌⊎◌, [], ℕ, List, Option, Some, Ok, IfErr, IfOk, MatchResult, OnErr, map, string_bytes};
+ghost use Rattle.argon2_passwd.specs.Answers.{AddsLines, EndsOrFailsToOpen, FailsToRead, FileUse, IsLogin, ReadsText, IsOpened, IsSalt, EndsAction, database_of, entry_of, drawn_salt, option_map, policy_value, status_of};
 
 use super::edits::{edit, edit_file};
 use super::others::import_others;
@@ -40,7 +40,7 @@ pub(super) fn serve<P: Outside, R: BufRead, W: Write>(
     output: &mut W,
 ) -> Result<(), Failure>
     requires { P.closed outside.old [] }
-    ensures { EndsAction P.File.Store P.keeps P.gives (policy_value policy.now) action.entry
+    ensures { EndsAction P.File.Store P.gives (policy_value policy.now) action.entry
         result (R.remaining input.old) (W.contents output.old) (W.contents output.new) (P.closed outside.new) }
 {
     match action {
@@ -79,7 +79,7 @@ fn verify<P: Outside, R: BufRead, W: Write>(
     output: &mut W,
 ) -> Result<(), Failure>
     requires { P.closed outside.old [] }
-    ensures { EndsAction P.File.Store P.keeps P.gives (policy_value access.now.policy.now)
+    ensures { EndsAction P.File.Store P.gives (policy_value access.now.policy.now)
         (Action.OnFile access.now.path (Task.Verify name.entry)) result (R.remaining input.old)
         (W.contents output.old) (W.contents output.new) (P.closed outside.new) }
 {
@@ -97,7 +97,7 @@ fn show<P: Outside, W: Write>(
     output: &mut W,
 ) -> Result<(), Failure>
     requires { P.closed outside.old [] }
-    ensures { (input : Option (List ℕ)) → EndsAction P.File.Store P.keeps P.gives
+    ensures { (input : Option (List ℕ)) → EndsAction P.File.Store P.gives
         (policy_value access.now.policy.now) (Action.OnFile access.now.path (Task.Show view)) result input
         (W.contents output.old) (W.contents output.new) (P.closed outside.new) }
 {
@@ -110,7 +110,7 @@ fn show<P: Outside, W: Write>(
 // Opens a file, which checks it, and closes it.
 fn check_file<P: Outside>(outside: &mut P, access: &Access<'_>) -> Result<(), Failure>
     requires { P.closed outside.old [] }
-    ensures { (input output : Option (List ℕ)) → EndsAction P.File.Store P.keeps P.gives
+    ensures { (input output : Option (List ℕ)) → EndsAction P.File.Store P.gives
         (policy_value access.now.policy.now) (Action.OnFile access.now.path Task.CheckFile) result
         input output output (P.closed outside.new) }
 {
@@ -128,7 +128,7 @@ fn import<P: Outside, R: BufRead>(
     input: &mut R,
 ) -> Result<(), Failure>
     requires { P.closed outside.old [] }
-    ensures { (output : Option (List ℕ)) → EndsAction P.File.Store P.keeps P.gives
+    ensures { (output : Option (List ℕ)) → EndsAction P.File.Store P.gives
         (policy_value access.now.policy.now) (Action.OnFile access.now.path (Task.Import any_text)) result
         (R.remaining input.old) output output (P.closed outside.new) }
 {
@@ -149,13 +149,13 @@ pub(super) fn open<P: Outside>(
     outside: &mut P,
     access: &Access<'_>,
 ) -> Result<AccountFile<P::File>, Failure>
-    requires { (before : List P.File) × P.closed outside.old before }
-    ensures ok { IfOk result (IsOpened P.keeps access.now.path.now) }
+    requires { (uses : List (FileUse P.File)) × P.closed outside.old uses }
+    ensures ok { IfOk result IsOpened }
     ensures err { IfErr result (λ failure. status_of failure ≡ 3) }
-    ensures opened { OnOk result ((before : List P.File) →
-        P.closed outside.old before → P.opened outside.new before) }
-    ensures untouched { OnErr result ((before : List P.File) →
-        P.closed outside.old before → P.closed outside.new before) }
+    ensures opened { IfOk result (λ file. (uses : List (FileUse P.File)) →
+        P.closed outside.old uses → P.opened outside.new uses access.now.path.now (database_of file)) }
+    ensures untouched { OnErr result ((uses : List (FileUse P.File)) →
+        P.closed outside.old uses → P.closed outside.new uses) }
 {
     for _ in 0..u64::MAX {
         match outside.open(access.path, access.if_absent, access.rows) {
@@ -179,7 +179,7 @@ fn log_in<P: Outside, G: Rng>(
 ) -> Result<Accepted, Failure>
     requires shut { P.closed outside.old [] }
     requires salt { IsSalt P.gives (drawn_salt (G.stream rng.old)) }
-    ensures { EndsOrFailsToOpen (λ done. IsLogin P.File.Store P.keeps P.gives (policy_value access.now.policy.now)
+    ensures { EndsOrFailsToOpen (λ done. IsLogin P.File.Store P.gives (policy_value access.now.policy.now)
         access.now.path.now name.now password.now done (P.closed outside.new))
         (P.closed outside.new []) result }
 {
@@ -208,9 +208,9 @@ pub(super) fn stored_text<P: Outside>(
 ) -> Result<Option<String>, Failure>
     requires { P.closed outside.old [] }
     ensures { MatchResult result
-        (λ text. ReadsText P.File.Store P.keeps access.now.path.now name.now
+        (λ text. ReadsText P.File.Store access.now.path.now name.now
         (Ok (option_map string_bytes text)) (λ read. P.closed outside.new (read ∷ [])))
-        (λ failure. FailsToRead P.File.Store P.keeps access.now.path.now name.now
+        (λ failure. FailsToRead P.File.Store access.now.path.now name.now
         (P.closed outside.new) failure ⊎ (P.closed outside.new [] × (status_of failure ≡ 3))) }
 {
     let mut accounts = open(outside, access)?;

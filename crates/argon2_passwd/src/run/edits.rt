@@ -1,7 +1,7 @@
 //! Changes of the text of one name in a file.
 
 ghost use Rattle.std.specs.Prelude.{◌≡◌, ◌∷◌, ◌++◌, [], ℕ, List, Option};
-ghost use Rattle.argon2_passwd.specs.Answers.{EndsOrFailsToOpen, EditsOnce, EndsAction, named_edit, policy_value};
+ghost use Rattle.argon2_passwd.specs.Answers.{EndsOrFailsToOpen, EditsOnce, EndsAction, FileUse, named_edit, policy_value};
 
 use super::accounts::{Access, open, stored_text};
 use super::{generator, new_text};
@@ -24,7 +24,7 @@ pub(super) fn edit<P: Outside, R: BufRead>(
     input: &mut R,
 ) -> Result<(), Failure>
     requires { P.closed outside.old [] }
-    ensures { (output : Option (List ℕ)) → EndsAction P.File.Store P.keeps P.gives
+    ensures { (output : Option (List ℕ)) → EndsAction P.File.Store P.gives
         (policy_value access.now.policy.now) (Action.OnFile access.now.path (Task.Edit task name.entry)) result
         (R.remaining input.old) output output (P.closed outside.new) }
 {
@@ -54,10 +54,10 @@ pub(super) fn edit_file<P: Outside>(
     name: &str,
     edit: &Edit<'_>,
 ) -> Result<(), Failure>
-    requires { (before : List P.File) × P.closed outside.old before }
-    ensures { (before : List P.File) → P.closed outside.old before → EndsOrFailsToOpen
-        (EditsOnce P.File.Store P.keeps access.now.path.now (named_edit name.now edit.now)
-        (λ more. P.closed outside.new (before ++ more))) (P.closed outside.new before) result }
+    requires { (uses : List (FileUse P.File)) × P.closed outside.old uses }
+    ensures { (uses : List (FileUse P.File)) → P.closed outside.old uses → EndsOrFailsToOpen
+        (EditsOnce P.File.Store access.now.path.now (named_edit name.now edit.now)
+        (λ more. P.closed outside.new (uses ++ more))) (P.closed outside.new uses) result }
 {
     let mut accounts = open(outside, access)?;
     let done = accounts.edit(name, edit);
@@ -75,7 +75,7 @@ fn change<P: Outside, R: BufRead>(
     input: &mut R,
 ) -> Result<(), Failure>
     requires { P.closed outside.old [] }
-    ensures { (output : Option (List ℕ)) → EndsAction P.File.Store P.keeps P.gives
+    ensures { (output : Option (List ℕ)) → EndsAction P.File.Store P.gives
         (policy_value access.now.policy.now) (Action.OnFile access.now.path (Task.Edit EditTask.Change name.entry)) result
         (R.remaining input.old) output output (P.closed outside.new) }
 {

@@ -25,7 +25,7 @@ pub(super) fn import_others<P: Outside, R: BufRead>(
     input: &mut R,
 ) -> Result<(), Failure>
     requires { P.closed outside.old [] }
-    ensures { (output : Option (List ℕ)) → EndsAction P.File.Store P.keeps P.gives
+    ensures { (output : Option (List ℕ)) → EndsAction P.File.Store P.gives
         (policy_value access.now.policy.now) (Action.OnFile access.now.path (Task.ImportOthers any_text))
         result (R.remaining input.old) output output (P.closed outside.new) }
 {

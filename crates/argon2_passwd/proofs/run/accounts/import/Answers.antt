@@ -28,5 +28,5 @@ returns g c output =
     let split = rw c.as_slice-2.ensures.value at c.in_ok-entries.ensures in
     let none = no_first _ c.first.result (rw c.deref.ensures.value at c.first.ensures.value) c.in_default.is in
     let adds = rw (c.as_slice-3.ensures.value, split.0) at c.add_all-added.ensures in
-    let closed = rw c.into_store.ensures at c.close.ensures [] (c.in_ok-accounts.ensures.opened [] c.requires) in
+    let closed = rw c.into_store.ensures at c.close.ensures [] _ _ (c.in_ok-accounts.ensures.opened [] c.requires) in
     inl (keeps_same _, (said, lines, (sym split.1 ∙ none, opened_for _ _ c.in_ok-accounts.ensures.ok adds closed)))

@@ -4,7 +4,7 @@ use Rattle.argon2_passwd.proofs.run.accounts.show.Goals as goal
 pub returns : goal.returns
 returns g c input =
     let lines = c.write_lines-written.ensures in
-    let closed = rw c.into_store.ensures at c.close.ensures [] (c.in_ok-accounts.ensures.opened [] c.requires) in
+    let closed = rw c.into_store.ensures at c.close.ensures [] _ _ (c.in_ok-accounts.ensures.opened [] c.requires) in
     inl (
       c.write_lines-written.result,
       search rules,

@@ -7,5 +7,5 @@ returns g c output =
     let lines = said_of (g.R.Read.remaining c.args.input.now) c.args.any_text c.in_ok-bytes.bytes.items said
     c.in_ok-bytes.ensures.ok (rw c.as_slice.ensures.value at c.in_ok-lines.ensures) in
     let adds = rw c.as_slice-2.ensures.value at c.add_others-added.ensures in
-    let closed = rw c.into_store.ensures at c.close.ensures [] (c.in_ok-accounts.ensures.opened [] c.requires) in
+    let closed = rw c.into_store.ensures at c.close.ensures [] _ _ (c.in_ok-accounts.ensures.opened [] c.requires) in
     inl (keeps_same _, (said, lines, opened_for _ _ c.in_ok-accounts.ensures.ok adds closed))

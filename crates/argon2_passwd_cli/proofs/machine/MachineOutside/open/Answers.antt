@@ -1,4 +1,5 @@
+use Rattle.std.proofs.Common.{refl}
 use Rattle.argon2_passwd_cli.proofs.machine.MachineOutside.open.Goals as goal
 
-pub returns-clause-ready : goal.returns-clause-ready
-returns-clause-ready c = let it = c.in_ok-accounts.ensures.ready in (it.0, tt, it.1)
+pub returns-clause-opened : goal.returns-clause-opened
+returns-clause-opened c uses were = (were, (_, c.in_ok-accounts.ensures.ready, refl))
