@@ -68,7 +68,7 @@ settings_of argon2 = argon2.settings
 abbrev pub secret_of : Argon2 → List ℕ
 secret_of argon2 = argon2.secret
 
--- what is true of each
+-- what the value of every `Argon2` meets
 pub record IsSound (target : TargetValue) : Type 0 where
   pub valid : AreValid target.settings.parameters
   pub m_cost : target.settings.parameters.m_cost < 2 ^ 32
