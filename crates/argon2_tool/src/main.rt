@@ -10,8 +10,6 @@ use std::process::ExitCode;
 mod arguments;
 mod failure;
 mod run;
-#[cfg(test)]
-mod tests;
 
 pub use run::run;
 
