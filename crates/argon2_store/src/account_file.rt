@@ -230,7 +230,7 @@ impl<S: Store> AccountFile<S> {
             output.new ≡ output.old }
     {
         if self.is_closed() {
-            return Err(LineError::File(FileError::Closed));
+            return Err(FileError::Closed.into());
         }
         let done = write_rows(&mut self.store, &mut self.row, view, output);
         undo_failed(&mut self.store, &done);

@@ -1,7 +1,7 @@
 //! Why calls on an account file are refused.
 
 ghost use Rattle.std.specs.Prelude.{◌≡◌, Some};
-ghost use Rattle.argon2_store.specs.Errors.{IsOfDatabase, OutOfMemory, call_error, file_error_text, files_error, is_refusal, line_error_text, lines_by, log_error, file_error, open_error_text, path_error, read_of, store_error};
+ghost use Rattle.argon2_store.specs.Errors.{File, IsOfDatabase, OutOfMemory, call_error, file_error_text, files_error, is_refusal, line_error_text, lines_by, log_error, file_error, open_error_text, path_error, read_of, store_error};
 ghost use Rattle.argon2_store.specs.declared.error.OpenError.TheVariants as no;
 
 use argon2_rows::Written;
@@ -120,7 +120,7 @@ pub(crate) fn line_result(done: Result<Written, FileError>) -> Result<(), LineEr
         Ok(Written::All) => Ok(()),
         Ok(Written::Breaks) => Err(LineError::Breaks),
         Ok(Written::Failed(error)) => Err(LineError::Write(error)),
-        Err(error) => Err(LineError::File(error)),
+        Err(error) => Err(error.into()),
     }
 }
 
@@ -148,6 +148,14 @@ impl fmt::Display for LineError {
 }
 
 impl std::error::Error for LineError {}
+
+impl From<FileError> for LineError {
+    ghost from_gives = { λ e error. error ≡ File e };
+
+    fn from(error: FileError) -> LineError {
+        LineError::File(error)
+    }
+}
 
 /// Why a file is not opened. The accounts in it are then as they were.
 #[derive(Clone, Copy, Debug)]
