@@ -4,9 +4,10 @@ use Rattle.std.proofs.lemmas.Slice.Eq.{bytes_eq-Decides}
 use Rattle.argon2_rows.proofs.RowLemmas.{get-changed}
 use Rattle.argon2_store.specs.AccountFile.{Answers}
 use Rattle.argon2_store.specs.Edits.{gives, name_of, names_after}
-pub use Rattle.argon2_accounts.specs.Accounts.{Accepted, AccountError, AccountFile, AdmitsName, AdmitsStored, IsChangeRefusal, ChangesName, Denial, Denied, Denies, DrawsForLogin, File, FileError, Ghosts, GivesPassword, HasNames, IsFresh, IsHonest}
+use Rattle.argon2_store.specs.Errors.{is_refusal}
+pub use Rattle.argon2_accounts.specs.Accounts.{Accepted, AccountError, AccountFile, AdmitsName, AdmitsStored, IsChangeRefusal, ChangesName, Denial, Denies, DrawsForLogin, FileError, Ghosts, GivesPassword, HasNames, IsFresh, IsHonest}
 pub use Rattle.argon2_accounts.specs.Accounts.{LogsIn, LogsNameIn, NamedEdit, NamesStay, PasswordHash, Phc, PolicyValue, Rehashed, RelatesNames, SaysValue, Serves, Stream, TellsOf, TellsOfRenewal, Texts, adding, changed, database_of}
-pub use Rattle.argon2_accounts.specs.Accounts.{drawn_salt, get, is_account_refusal, phc_of, policy_value, replacing, setting, stream_after, text_of}
+pub use Rattle.argon2_accounts.specs.Accounts.{drawn_salt, get, is_account_refusal, of_denial, of_file, phc_of, policy_value, replacing, setting, stream_after, text_of}
 pub use Rattle.argon2_policy.proofs.PolicyLemmas.{text_or}
 pub use Rattle.argon2_rows.proofs.TableLemmas.{err_is}
 
@@ -15,6 +16,10 @@ edit_leaves : (edit : NamedEdit) (before after : Texts) → names_after (edit �
     → (after ≡ changed before (name_of edit) (gives edit (get before (name_of edit))))
     × (get after (name_of edit) ≡ gives edit (get before (name_of edit)))
 edit_leaves edit before after is = grind (arith, get-changed)
+
+-- what an error of the file is called is a refusal exactly if the error is one
+is_account_refusal-of_file : (e : FileError) → is_account_refusal (of_file e) ≡ is_refusal e
+is_account_refusal-of_file e = grind arith
 
 module _ {S : Type 0} {g : Ghosts S} where
   -- names that a call has only read
@@ -49,16 +54,17 @@ module _ (policy : PolicyValue) (name password : List ℕ) (before : Texts) wher
   -- why a password is not changed
   pub keeps : (fresh : List ℕ) (why : Denial) (rng left : Stream)
       → IsChangeRefusal policy password fresh (get before name) rng left why
-      → ChangesName {X = Unit {0}} policy name password fresh rng left (Err (Denied why)) before before
+      → ChangesName {X = Unit {0}} policy name password fresh rng left (Err (of_denial why)) before before
   keeps fresh why rng left (inl (denies, same)) = (refl, λ is. inl ((why, denies, refl), same))
   keeps fresh why rng left (inr (admits, making, drawn)) = (refl, grind arith)
 
   -- a text that was read is replaced, unless the file fails: its error is no refusal
   fails_to_edit : (text new : List ℕ) (v : Phc) (after : Texts) (e : FileError)
       → get before name ≡ Some text → SaysValue (Some text) v
-      → Answers before (replacing name text new ∷ []) (Err e) after → ¬ (IsTrue (is_account_refusal (File e)))
+      → Answers before (replacing name text new ∷ []) (Err e) after → ¬ (IsTrue (is_account_refusal (of_file e)))
   fails_to_edit text new v after e has says answers is =
-      let no = answers.0 is in let unlocked = says.0 in let same = bytes_eq-Decides text text in grind arith
+      let no = answers.0 (subst IsTrue (is_account_refusal-of_file e) is) in
+      let unlocked = says.0 in let same = bytes_eq-Decides text text in grind arith
 
   -- the password is changed, unless the file fails
   pub changes : (new text : List ℕ) (rng left : Stream) (fresh : PasswordHash) (after : Texts)

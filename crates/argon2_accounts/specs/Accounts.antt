@@ -10,7 +10,7 @@ pub use Rattle.argon2_rows.specs.Table.{Ghosts, IsHonest}
 pub use Rattle.argon2_store.specs.AccountFile.{HasNames, IsClosed, NamesStay, Serves, database_of}
 pub use Rattle.argon2_store.specs.Edits.{NamedEdit, adding, replacing, setting}
 pub use Rattle.argon2_store.specs.declared.account_file.AccountFile.{AccountFile}
-pub use Rattle.argon2_accounts.specs.Errors.{AccountError, Denial, Denied, File, FileError, Refused, is_account_refusal}
+pub use Rattle.argon2_accounts.specs.Errors.{AccountError, Denial, FileError, Refused, is_account_refusal, of_denial, of_file}
 
 -- what the name has accepts the password within the bound
 abbrev pub AdmitsName : PolicyValue → Texts → List ℕ → List ℕ → Type 0
@@ -18,7 +18,7 @@ AdmitsName policy names name password = AdmitsStored policy password (get names 
 
 -- what the name has refuses the password
 abbrev pub IsDenied : PolicyValue → List ℕ → Option (List ℕ) → AccountError → Type 0
-IsDenied policy password stored e = (why : Denial) × Denies policy password stored why × (e ≡ Denied why)
+IsDenied policy password stored e = (why : Denial) × Denies policy password stored why × (e ≡ of_denial why)
 
 -- the names after a login that left this value: its text is written exactly if it is a fresh one
 abbrev pub Renews : List ℕ → Accepted → Phc → Texts → Texts → Type 0
@@ -27,19 +27,19 @@ Renews name did w before after = after ≡ before
 
 -- the result is the answer of the file
 abbrev pub TellsOf : Result (Unit {0}) AccountError → Result (Unit {0}) FileError → Type 0
-TellsOf result done = result ≡ result_map_both (λ x. x) File done
+TellsOf result done = result ≡ result_map_both (λ x. x) of_file done
 
 -- so is that of a login whose fresh text was to be written, which is also accepted without it
 abbrev pub TellsOfRenewal : Result Accepted AccountError → Result (Unit {0}) FileError → Type 0
 TellsOfRenewal result (Ok _) = result ≡ Ok Rehashed
-TellsOfRenewal result (Err e) = (result ≡ Ok Kept) ⊎ (result ≡ Err (File e))
+TellsOfRenewal result (Err e) = (result ≡ Ok Kept) ⊎ (result ≡ Err (of_file e))
 
 module _ {S : Type 0} {g : Ghosts S} where
   -- A fresh text of the password is made, and the file makes this edit with it; without a text nothing is asked of the file.
   abbrev pub Stores : (List ℕ → NamedEdit) → TargetValue → List ℕ → List ℕ → Result (Unit {0}) AccountError
       → AccountFile S g → AccountFile S g → Type 0
   Stores edit target password drawn result old new =
-      ((why : Error) × IsHashingRefusal password why × (result ≡ Err (Denied (Refused why))) × (new ≡ old))
+      ((why : Error) × IsHashingRefusal password why × (result ≡ Err (of_denial (Refused why))) × (new ≡ old))
       ⊎ ((fresh : PasswordHash) × (done : Result (Unit {0}) FileError) × IsFresh target password drawn (phc_of fresh)
       × TellsOf result done × Serves (edit (text_of fresh) ∷ []) done old new)
 
@@ -47,7 +47,7 @@ module _ {S : Type 0} {g : Ghosts S} where
   abbrev pub OnlyReads : {X : Type 0} → Result X AccountError → AccountFile S g → AccountFile S g → Type 0
   OnlyReads (Ok x) old new = NamesStay None old new
   OnlyReads (Err why) old new = (error : Option FileError) × NamesStay error old new
-      × MatchOption error ((denial : Denial) × (why ≡ Denied denial)) (λ e. why ≡ File e)
+      × MatchOption error ((denial : Denial) × (why ≡ of_denial denial)) (λ e. why ≡ of_file e)
 
   -- The text of the name is read, and perhaps a fresh text of the password written in the place of the one that was read,
   -- of which the result tells.

@@ -1,21 +1,35 @@
 -- The errors of accounts.
-use Rattle.std.specs.Prelude.{ℕ, List, Bool, true, false}
+use Rattle.std.specs.Prelude.{ℕ, List, Bool, codes, true, false}
+use Rattle.argon2_base.specs.declared.error.password_hash.Error.TheVariants as hash
 use Rattle.argon2_policy.specs.Denials.{denial_text}
-use Rattle.argon2_policy.specs.Policy.{OutOfMemory}
 pub use Rattle.argon2_policy.specs.declared.denial.Denial.{Denial}
-pub use Rattle.argon2_policy.specs.declared.denial.Denial.TheVariants.{Refused}
-pub use Rattle.argon2_store.specs.declared.error.FileError.{FileError}
+pub use Rattle.argon2_policy.specs.declared.denial.Denial.TheVariants.{NameUnknown, Locked, Refused}
 use Rattle.argon2_store.specs.Errors.{file_error_text, is_refusal}
+pub use Rattle.argon2_store.specs.declared.error.FileError.{FileError}
+use Rattle.argon2_store.specs.declared.error.FileError.TheVariants as file
 pub use Rattle.argon2_accounts.specs.declared.error.AccountError.{AccountError}
-pub use Rattle.argon2_accounts.specs.declared.error.AccountError.TheVariants.{Denied, File}
+pub use Rattle.argon2_accounts.specs.declared.error.AccountError.TheVariants.{Denied, OutOfMemory, File}
+
+-- what a denial by the policy is called
+abbrev pub of_denial : Denial → AccountError
+of_denial (Refused hash.OutOfMemory) = OutOfMemory
+of_denial why = Denied why
+
+-- what an error of the file is called: a name that is unknown or locked is denied, as it is by the policy
+abbrev pub of_file : FileError → AccountError
+of_file file.NameUnknown = Denied NameUnknown
+of_file file.Locked = Denied Locked
+of_file file.OutOfMemory = OutOfMemory
+of_file e = File e
 
 -- the name, its text or the password is why the call is refused
 abbrev pub is_account_refusal : AccountError → Bool
-is_account_refusal (Denied (Refused OutOfMemory)) = false
 is_account_refusal (Denied why) = true
+is_account_refusal OutOfMemory = false
 is_account_refusal (File e) = is_refusal e
 
 -- what an error prints
 abbrev pub account_error_text : AccountError → List ℕ
 account_error_text (Denied why) = denial_text why
+account_error_text OutOfMemory = codes "out of memory"
 account_error_text (File e) = file_error_text e

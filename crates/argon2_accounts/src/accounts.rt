@@ -122,7 +122,7 @@ impl<'key, S: Store> Accounts<'key, S> {
     /// # Errors
     /// The first of these that holds:
     /// - those of [`Policy::hash_password`].
-    /// - those of [`AccountFile::set`].
+    /// - those of [`AccountFile::set`]. A name that is unknown is denied, as by [`log_in`](Accounts::log_in).
     pub fn set_password<R: Rng>(
         &mut self,
         rng: &mut R,
