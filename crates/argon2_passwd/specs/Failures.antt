@@ -1,6 +1,7 @@
 -- Why the program fails.
 use Rattle.std.specs.Prelude.{◌≡◌, ℕ, true, false, Bool, IsTrue, List, codes, if◌then◌else◌, Result, Ok, Err}
 use Rattle.std.specs.IoError.{error_kind}
+use Rattle.std.specs.Result.{result_map_both}
 use Rattle.std.specs.declared.io.Error.{Error as IoError}
 use Rattle.std.specs.declared.io.ErrorKind.{ErrorKind}
 use Rattle.std.specs.declared.io.ErrorKind.TheVariants.{BrokenPipe}
@@ -36,8 +37,16 @@ status_of (Passed lines) = 4
 status_of (File error) = if is_refusal error then 1 else 3
 status_of _ = 3
 
+-- whether a command is done
+abbrev pub Outcome : Type 0
+Outcome = Result (Unit {0}) Failure
+
+-- the outcome of a call with this answer, of which each error becomes a failure
+abbrev pub outcome_by : {E : Type 0} → (E → Failure) → Result (Unit {0}) E → Outcome
+outcome_by failure done = result_map_both (λ x. x) failure done
+
 -- the exit status of a result
-abbrev pub status_by : Result (Unit {0}) Failure → ℕ
+abbrev pub status_by : Outcome → ℕ
 status_by (Ok _) = 0
 status_by (Err failure) = status_of failure
 

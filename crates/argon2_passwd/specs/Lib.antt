@@ -1,7 +1,10 @@
+pub mod Additions
 pub mod Answers
 pub mod Failures
+pub mod Files
 pub mod Lines
 pub mod News
 pub mod Options
 pub mod Passwords
 pub mod Salts
+pub mod Texts
