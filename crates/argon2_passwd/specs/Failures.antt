@@ -68,9 +68,10 @@ denial_failure (denial.Refused OutOfMemory) = Memory
 denial_failure denial.Locked = Denied (denial.Refused PasswordInvalid)
 denial_failure why = Denied why
 
--- the failure by a call on a file: a name that is locked is refused as a wrong password is
+-- the failure by a call on a file: a name that is unknown is denied, and one that is locked as a wrong password is
 abbrev pub file_failure : FileError → Failure
 file_failure file.OutOfMemory = Memory
+file_failure file.NameUnknown = Denied denial.NameUnknown
 file_failure file.Locked = Denied (denial.Refused PasswordInvalid)
 file_failure error = File error
 
@@ -90,7 +91,6 @@ open_failure error = Unopened error
 -- the name is unknown, or its text refuses the password or is locked
 abbrev pub is_denial : Failure → Bool
 is_denial (Denied why) = is_wrong why
-is_denial (File file.NameUnknown) = true
 is_denial _ = false
 
 -- they refuse a login, or a change of a password

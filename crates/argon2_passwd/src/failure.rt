@@ -134,11 +134,7 @@ impl Failure {
     pub fn is_denial(&self) -> bool
         ensures { result ≡ is_denial self.now }
     {
-        match self {
-            Failure::Denied(why) => why.is_wrong(),
-            Failure::File(error) => matches!(error, FileError::NameUnknown),
-            _ => false,
-        }
+        matches!(self, Failure::Denied(why) if why.is_wrong())
     }
 }
 
@@ -198,13 +194,14 @@ impl From<Denial> for Failure {
     }
 }
 
-/// The failure of a call on a file. A name that is locked is refused as a wrong password is.
+/// The failure of a call on a file. A name that is unknown is denied, and one that is locked as a wrong password is.
 impl From<FileError> for Failure {
     ghost from_gives = { λ error failure. failure ≡ file_failure error };
 
     fn from(error: FileError) -> Failure {
         match error {
             FileError::OutOfMemory => Failure::Memory,
+            FileError::NameUnknown => Denial::NameUnknown.into(),
             FileError::Locked => Denial::Locked.into(),
             error => Failure::File(error),
         }
