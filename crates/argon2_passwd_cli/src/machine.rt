@@ -1,5 +1,6 @@
 //! The machine that the program runs on.
 
+use crate::history::History;
 use argon2_passwd::{Failure, IfAbsent, News, Outside, RowCheck, SecretKind};
 use argon2_store::{AccountFile, AccountsAt, OpenError};
 use sqlite_std_file::{FileFrom, Wary};
@@ -11,7 +12,7 @@ use std::io::{ErrorKind, Read};
 use std::os::unix::fs::MetadataExt;
 use std::random::RandomSource;
 use std::time::{Duration, Instant};
-use std::{fs, thread};
+use std::{fs, slice, thread};
 
 // The most bytes that a secret may have.
 const LONGEST_SECRET: usize = 4096;
@@ -30,16 +31,22 @@ pub struct Machine<'a> {
     waited: Duration,
     // When the last pause began, if the file is still in use.
     paused: Option<Instant>,
+    // The paths at which files were opened.
+    paths: History<u8>,
+    // The stores that were closed, each by itself.
+    stores: History<FileStore<FileFrom<Wary>>>,
 }
 
 impl<'a> Machine<'a> {
-    ghost use Rattle.std.specs.Prelude.{◌≡◌, IfErr, IfOk};
+    ghost use Rattle.std.specs.Prelude.{◌≡◌, [], IfErr, IfOk};
     ghost use Rattle.argon2_rows.specs.Names.{Texts};
     ghost use Rattle.argon2_store.specs.AccountFile.{IsReady};
     ghost use Rattle.argon2_passwd.specs.Failures.{status_of};
 
-    /// The machine of this runtime.
-    pub fn new(rt: &'a HostRuntime) -> Machine<'a> {
+    /// The machine of this runtime, which has opened no file.
+    pub fn new(rt: &'a HostRuntime) -> Machine<'a>
+        ensures { (result.paths.items ≡ []) × (result.stores.items ≡ []) }
+    {
         Machine {
             rt,
             news: News {
@@ -48,6 +55,8 @@ impl<'a> Machine<'a> {
             },
             waited: Duration::ZERO,
             paused: None,
+            paths: History::new(),
+            stores: History::new(),
         }
     }
 
@@ -103,7 +112,7 @@ impl<'a> Machine<'a> {
 }
 
 impl Outside for Machine<'_> {
-    ghost use Rattle.std.specs.Prelude.{◌≤◌, length, ⊤};
+    ghost use Rattle.std.specs.Prelude.{◌≡◌, ◌≤◌, ◌∷◌, ◌++◌, [], length, map};
     ghost use Rattle.argon2_passwd.specs.Answers.{BeginOpened, IsOpenedStore};
 
     type File = FileStore<FileFrom<Wary>>;
@@ -111,15 +120,20 @@ impl Outside for Machine<'_> {
     // Of a secret only the length is known.
     ghost holds = { λ path secret. length secret ≤ 4096 };
 
-    // Of random bytes nothing is known.
-    ghost gives = { λ seed. ⊤ };
+    // Of random bytes only the number is known.
+    ghost gives = { λ seed. length seed ≡ 32 };
 
-    // The first store of each use is that of some opened file with names. Paths, last stores and the number of uses may be any.
+    // The paths and the last stores are those that were noted. The first store of each use is that of some opened file with
+    // names.
     ghost closed = { λ machine uses.
-        BeginOpened ⟦<FileStore<FileFrom<Wary>> as Store>⟧ uses };
+        (machine.paths.items ≡ map (λ used. used.path) uses)
+        × (machine.stores.items ≡ map (λ used. used.last ∷ []) uses)
+        × BeginOpened ⟦<FileStore<FileFrom<Wary>> as Store>⟧ uses };
 
     ghost opened = { λ machine uses path first.
-        BeginOpened ⟦<FileStore<FileFrom<Wary>> as Store>⟧ uses
+        (machine.paths.items ≡ map (λ used. used.path) uses ++ path ∷ [])
+        × (machine.stores.items ≡ map (λ used. used.last ∷ []) uses)
+        × BeginOpened ⟦<FileStore<FileFrom<Wary>> as Store>⟧ uses
         × IsOpenedStore ⟦<FileStore<FileFrom<Wary>> as Store>⟧ first };
 
     ghost news = { λ machine. machine.news };
@@ -166,10 +180,12 @@ impl Outside for Machine<'_> {
         let accounts = self.open_accounts(path, rows)?;
         self.news.is_made |= !is_there;
         self.paused = None;
+        self.paths = self.paths.with(path.as_bytes());
         Ok(accounts)
     }
 
     fn close(&mut self, mut store: FileStore<FileFrom<Wary>>) {
+        self.stores = self.stores.with(slice::from_ref(&store));
         match store.checkpoint() {
             Ok(()) => self.news.is_behind = false,
             // Of a store that has failed, no change was acknowledged.

@@ -10,6 +10,7 @@ use std::io::{BufRead, BufReader, BufWriter, ErrorKind, Read};
 use std::process::ExitCode;
 
 mod arguments;
+mod history;
 mod machine;
 
 // The most bytes of a line with a password, or with a text, and its LF or CR LF.
