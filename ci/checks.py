@@ -163,11 +163,11 @@ class Function:
 
 
 class WrongBody:
-    """A file must-fail/NAME.edit of a crate; ci/guards says what its lines are."""
+    """A file guards/CRATE/NAME.edit, or must-fail/NAME.edit of a crate; ci/guards says what its lines are."""
 
-    def __init__(self, path):
-        self.path, self.folder = path, os.path.dirname(os.path.dirname(path))
-        self.crate, self.name = os.path.basename(self.folder), os.path.basename(path).removesuffix(".edit")
+    def __init__(self, crate, path):
+        self.path, self.folder = path, f"{CRATES}/{crate}"
+        self.crate, self.name = crate, os.path.basename(path).removesuffix(".edit")
         with open(path, encoding="utf-8") as it:
             self.lines = it.read().rstrip("\n").split("\n")
         self.promise = self.lines[0]
@@ -207,8 +207,13 @@ class WrongBody:
 
 
 def wrong_bodies(crate="*"):
-    """The wrong bodies of a crate, or of all."""
-    return [WrongBody(it) for it in sorted(glob.glob(f"{CRATES}/{crate}/must-fail/*.edit"))]
+    """The wrong bodies of a crate, or of all, in the order of their names."""
+    found = []
+    for folder in sorted(glob.glob(f"{CRATES}/{crate}")):
+        name = os.path.basename(folder)
+        paths = glob.glob(f"{ROOT}/guards/{name}/*.edit") + glob.glob(f"{folder}/must-fail/*.edit")
+        found += [WrongBody(name, it) for it in sorted(paths, key=os.path.basename)]
+    return found
 
 
 def functions(crate="*"):
