@@ -171,8 +171,11 @@ class WrongBody:
         with open(path, encoding="utf-8") as it:
             self.lines = it.read().rstrip("\n").split("\n")
         self.promise = self.lines[0]
-        self.refused = self.line("refused: ")
-        self.function = self.refused.split(",")[0]
+        self.take_refused(self.line("refused: "))
+
+    def take_refused(self, words):
+        """What refuses it: these words, of which the first is a function, and the call whose promise it breaks."""
+        self.refused, self.function = words, words.split(",")[0]
         self.call = self.line("call: ") or self.function
 
     def line(self, begin):
@@ -184,7 +187,7 @@ class WrongBody:
         self.lines = [self.promise, f"refused: {words}", *(it for it in self.lines[1:] if not it.startswith("refused: "))]
         with open(self.path, "w", encoding="utf-8") as it:
             it.write("\n".join([*self.lines, ""]))
-        self.refused = words
+        self.take_refused(words)
 
     def changes(self):
         """Each change: its file, the text that stands there, and the one that takes its place."""
