@@ -1,11 +1,34 @@
 // Tries a package that web/build made, in node: node web/check.mjs FOLDER. The last line is 'N passed, M failed'.
 
+import { spawnSync } from "node:child_process";
 import { readFileSync } from "node:fs";
 import { pathToFileURL } from "node:url";
-import { check, KNOWN, MODULES, runTests, thrown, toHex, tryModules, tryWorker } from "./tests.mjs";
+import { check, KNOWN, MODULES, runTests, thrown, toHex, tryCalls, tryModules, tryWorker } from "./tests.mjs";
 
 const folder = pathToFileURL(`${process.argv[2]}/`);
 const readModule = (name) => new Uint8Array(readFileSync(new URL(name, folder)));
+const WORKER = JSON.stringify(new URL("node-worker.mjs", folder).href);
+
+// A program whose worker has posted an answer that it reads only after it has ended the worker.
+const LATE = `
+import { start } from ${WORKER};
+const worker = start();
+await worker.raw("x", "somesalt", { memory: 8 });
+const waiting = worker.raw("x", "somesalt", { memory: 8 });
+const begun = performance.now();
+while (performance.now() - begun < 500);
+worker.terminate();
+console.log(await waiting.catch(({ message }) => message));
+setTimeout(() => {}, 100);
+`;
+
+// Requires that node ends well with a program on standard input, or by -e, and returns what it writes.
+function written(program, isInput) {
+  const words = isInput ? ["--input-type=module", "-"] : ["--input-type=module", "-e", program];
+  const { status, stdout, stderr } = spawnSync(process.execPath, words, { input: isInput ? program : "", encoding: "utf8" });
+  check(status === 0, status, stdout, stderr);
+  return stdout.trim();
+}
 
 const TESTS = {
   "the entries have the module of the package": async () => {
@@ -38,6 +61,19 @@ const TESTS = {
     await tryWorker(start);
     // (node ends though this one is there)
     await start().raw("x", "somesalt");
+  },
+
+  "calls of a worker": async () => {
+    await tryCalls(await import(new URL("calls.mjs", folder)));
+  },
+
+  "a worker of a program that is no file": () => {
+    const program = `import { start } from ${WORKER}; console.log((await start().raw("x", "somesalt")).length);`;
+    check(written(program, true) === "32" && written(program, false) === "32");
+  },
+
+  "a worker is ended after it has posted an answer": () => {
+    check(written(LATE, false) === "the worker was terminated");
   },
 };
 

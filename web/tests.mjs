@@ -16,6 +16,14 @@ const SMALL = { memory: 8, passes: 1 };
 // Long enough for turns.
 const LONG = { memory: 8192, passes: 8 };
 
+// Options with a secret that is not their own.
+class Settings {
+  get secret() {
+    return "some secret";
+  }
+}
+const INHERITED = [new Settings(), Object.create({ secret: "some secret" }), 12, true, () => {}, [], new Map(), null];
+
 export const toHex = (bytes) => Array.from(bytes, (it) => it.toString(16).padStart(2, "0")).join("");
 const fromHex = (digits) => Uint8Array.from(digits.match(/../g) ?? [], (it) => parseInt(it, 16));
 
@@ -168,6 +176,24 @@ const TESTS = {
     }
   },
 
+  "options that are not plain": async ({ argon2 }) => {
+    for (const options of INHERITED) {
+      for (const call of [
+        () => argon2.hash("x", options),
+        () => argon2.verify(OF_ABC, "abc", options),
+        () => argon2.verify(OF_ABC, "abc", { bound: options }),
+        () => argon2.needsRehash(OF_ABC, options),
+        () => argon2.raw("x", SALT, options),
+        () => argon2.rawAsync("x", SALT, options),
+      ]) {
+        const error = await thrown(call);
+        check(error instanceof TypeError, String(call), String(error));
+      }
+    }
+    const plain = Object.assign(Object.create(null), { ...SMALL, salt: SALT });
+    check(argon2.hash("abc", plain) === argon2.hash("abc", { ...plain }) && argon2.verify(OF_ABC, "abc", Object.create(null)));
+  },
+
   "progress, and others run meanwhile": async ({ argon2 }) => {
     const shares = [];
     let [turns, isDone] = [0, false];
@@ -268,6 +294,44 @@ export async function tryModules(load, lengths) {
   check(taken.join() === lengths.join() && lengths[0] !== lengths[1], taken);
 }
 
+/**
+ * Tries both ends of a worker's calls without a worker: an answer that nobody waits for is passed over, options whose
+ * properties a post would leave out are refused, and the worker clears its copies of bytes.
+ */
+export async function tryCalls({ Calls, answering }) {
+  const posted = [];
+  const calls = new Calls({ postMessage: (it) => posted.push(it), terminate: () => {} });
+  const { hash, terminate } = calls.functions();
+  const waiting = thrown(() => hash("x", { secret: "y", salt: new Uint8Array(8) }));
+  terminate();
+  calls.take({ id: posted[0].id, answer: "late" });
+  calls.take({ id: 7, answer: "unknown" });
+  check((await waiting).message === "the worker was terminated");
+
+  const others = new Calls({ postMessage: (it) => posted.push(it) }).functions();
+  for (const options of INHERITED.filter((it) => typeof it === "object" && it !== null)) {
+    for (const call of [() => others.hash("x", options), () => others.verify("x", "y", { bound: options })]) {
+      const error = await thrown(call);
+      check(error instanceof TypeError, String(call), String(error));
+    }
+  }
+  check(posted.length === 1, posted.length);
+
+  const sevens = (length) => new Uint8Array(length).fill(7);
+  const shared = new Uint8Array(new SharedArrayBuffer(4)).fill(7);
+  const tag = sevens(4);
+  for (const raw of [() => tag, () => check(false, "refused")]) {
+    const [password, salt, secret] = [sevens(16), sevens(8), sevens(8)];
+    let said;
+    const answer = answering(Promise.resolve({ raw }), (it) => (said = structuredClone(it)));
+    await answer({ id: 1, name: "raw", words: [password.subarray(4, 8), salt, { secret: secret.buffer, data: "x" }, shared] });
+    check(said.answer?.join() === "7,7,7,7" || said.error.message === "refused", said);
+    const cleared = [password, salt, secret, ...(said.error ? [] : [tag])];
+    check(cleared.every((it) => it.every((byte) => byte === 0)), cleared);
+    check(shared.every((byte) => byte === 7), "memory that the caller shares");
+  }
+}
+
 /** Tries the functions of a worker. */
 export async function tryWorker(start) {
   const worker = start();
@@ -279,6 +343,10 @@ export async function tryWorker(start) {
   const [refused, wrong] = [await thrown(() => worker.verify("x", "x")), await thrown(() => worker.hash("x", { m: 1 }))];
   check(refused.name === "Argon2Error" && refused.code === "TEXT_INVALID", String(refused));
   check(wrong instanceof TypeError, String(wrong));
+  check((await thrown(() => worker.hash("x", new Settings()))) instanceof TypeError, "options that are not plain");
+  const key = new Uint8Array(8).fill(7);
+  await worker.raw(key, key, { ...SMALL, secret: key });
+  check(key.every((it) => it === 7), "the caller's bytes");
   const waiting = worker.raw("x", "somesalt", { passes: 1e6 });
   worker.terminate();
   check((await thrown(() => waiting)).message === "the worker was terminated");

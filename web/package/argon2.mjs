@@ -3,6 +3,7 @@
 
 import { Argon2Error, MISMATCH, must } from "./error.mjs";
 import { Instance } from "./instance.mjs";
+import { complete } from "./options.mjs";
 
 export { Argon2Error };
 
@@ -90,8 +91,9 @@ export class Argon2 {
   }
 
   /** As `raw`, in turns of some milliseconds. */
-  async rawAsync(password, salt, { onProgress, signal, ...options } = {}) {
-    const wanted = { ...complete(TAG, options), keyid: "" };
+  async rawAsync(password, salt, options = {}) {
+    const { onProgress, signal, ...settings } = complete({ ...TAG, onProgress: undefined, signal: undefined }, options);
+    const wanted = { ...settings, keyid: "" };
     signal?.throwIfAborted();
     const instance = this.#take();
     try {
@@ -222,14 +224,6 @@ function show(instance, name, ...words) {
 // The blocks that a hash fills.
 function blockCount(memory, lanes) {
   return 4 * lanes * Math.floor(memory / (4 * lanes));
-}
-
-// Options with their defaults. One that is undefined stays so and is refused, so that a secret that was not read is not left out.
-function complete(defaults, options) {
-  for (const name of Object.keys(options)) {
-    if (!Object.hasOwn(defaults, name)) throw new TypeError(`there is no option ${name}`);
-  }
-  return { ...defaults, ...options };
 }
 
 function whole(value, name) {

@@ -120,8 +120,12 @@ export class Instance {
   }
 }
 
+/** Whether a value is bytes: a buffer, or a view of one. */
+export function isBytes(value) {
+  return ArrayBuffer.isView(value) || value instanceof ArrayBuffer;
+}
+
 function bytesOf(value, name) {
-  if (ArrayBuffer.isView(value)) return new Uint8Array(value.buffer, value.byteOffset, value.byteLength);
-  if (value instanceof ArrayBuffer) return new Uint8Array(value);
-  throw new TypeError(`${name} is neither a string nor bytes`);
+  if (!isBytes(value)) throw new TypeError(`${name} is neither a string nor bytes`);
+  return ArrayBuffer.isView(value) ? new Uint8Array(value.buffer, value.byteOffset, value.byteLength) : new Uint8Array(value);
 }
