@@ -10,6 +10,7 @@
 #include <stdlib.h>
 #include <string.h>
 #include <sys/mman.h>
+#include <sys/prctl.h>
 #include <sys/resource.h>
 #include <sys/stat.h>
 
@@ -39,8 +40,9 @@ int main(int argc, char **argv, char **environment)
     /* A new file with accounts is for its owner alone. */
     if (strcmp(NAME, "argon2-passwd") == 0)
         umask(077);
-    /* A core dump would have the password. */
+    /* A core dump would have the password. The kernel does not look at the limit if a program collects core dumps. */
     setrlimit(RLIMIT_CORE, &(struct rlimit){0, 0});
+    prctl(PR_SET_DUMPABLE, 0, 0, 0, 0);
     if (main_v4 != NULL && __builtin_cpu_supports("x86-64-v4"))
         return main_v4(argc, argv, environment);
     if (main_v3 != NULL && __builtin_cpu_supports("x86-64-v3"))
