@@ -8,21 +8,28 @@ import base64
 import hashlib
 import hmac
 import logging
+import operator
 import os
 
 import argon2
 import bcrypt
+import psycopg2
 
 LOG = logging.getLogger(__name__)
 HASHER = argon2.PasswordHasher(time_cost=2, memory_cost=19456, parallelism=1, hash_len=32)
+# What new texts show, except for their costs.
+KIND = argon2.Type.ID, 19
 # Verified if a name is unknown or locked, so that this takes as long as a wrong password.
 NOBODY = HASHER.hash(os.urandom(16))
 
 
 def text_of(db, name):
-    """The text of a name, or None."""
+    """The text of a name, or None. A name that PostgreSQL can't hold, with a NUL or half of a pair of surrogates, has none."""
     with db, db.cursor() as cursor:
-        cursor.execute("SELECT phc FROM account WHERE name = %s", (name,))
+        try:
+            cursor.execute("SELECT phc FROM account WHERE name = %s", (name,))
+        except ValueError:
+            return None
         row = cursor.fetchone()
     return row[0] if row else None
 
@@ -50,8 +57,8 @@ def accepts_other(text, password):
     """Whether a text of bcrypt, or Django's of PBKDF2 or scrypt, accepts the bytes of a password. Costs have a bound too."""
     if text.startswith("$2"):
         cost(text[4:6], 14)
-        # (bcrypt ends a password at a NUL, and the module refuses one)
-        return b"\0" not in password and bcrypt.checkpw(password, text.encode())
+        # (bcrypt ends a password at a NUL, and behind 72 bytes; the module refuses such passwords)
+        return b"\0" not in password and bcrypt.checkpw(password[:72], text.encode())
     scheme, *fields = text.split("$")
     if scheme == "pbkdf2_sha256":
         rounds, salt, stored = fields
@@ -88,28 +95,57 @@ def accepts(text, password):
         return False
 
 
+def hashed(password):
+    """A new text of a password. A password that has no bytes in UTF-8 is a ValueError, which does not name it."""
+    try:
+        return HASHER.hash(password)
+    except UnicodeEncodeError:
+        pass
+    raise ValueError("half of a pair of surrogates has no bytes in UTF-8")
+
+
+def is_weaker(text):
+    """Whether a text is weaker than new ones, or of another scheme. One with higher costs is not."""
+    if not text.startswith("$argon2"):
+        return True
+    it = argon2.extract_parameters(text)
+    costs = it.memory_cost, it.time_cost, it.parallelism, it.hash_len
+    least = HASHER.memory_cost, HASHER.time_cost, HASHER.parallelism, HASHER.hash_len
+    return (it.type, it.version) != KIND or any(map(operator.lt, costs, least))
+
+
 def register(db, name, password):
-    """Gives a new name a text, and returns whether the name was new."""
+    """Gives a new name a text, and returns whether the name was new. A name that PostgreSQL can't hold is a ValueError."""
+    fresh = hashed(password)
     with db, db.cursor() as cursor:
-        words = "INSERT INTO account VALUES (%s, %s) ON CONFLICT DO NOTHING"
-        cursor.execute(words, (name, HASHER.hash(password)))
+        cursor.execute("INSERT INTO account VALUES (%s, %s) ON CONFLICT DO NOTHING", (name, fresh))
         return cursor.rowcount == 1
 
 
 def log_in(db, name, password):
-    """Whether a name has a password. An old text is replaced; if another call came first, its text stays."""
+    """Whether a name has a password. A weaker text is replaced; if another call came first, its text stays.
+
+    The text also stays if a new one can't be made or stored, which is logged.
+    """
     text = text_of(db, name)
     if not accepts(text or NOBODY, password) or text is None:
         return False
-    if not text.startswith("$argon2") or HASHER.check_needs_rehash(text):
-        replace(db, name, text, HASHER.hash(password))
+    if is_weaker(text):
+        try:
+            replace(db, name, text, hashed(password))
+        except (argon2.exceptions.HashingError, psycopg2.Error) as error:
+            # (an error of PostgreSQL may have the text in it)
+            LOG.error("a text is not renewed: %s", type(error).__name__)
     return True
 
 
 def change_password(db, name, old, new):
     """Gives a name a text of a new password if its text accepts the old one, and returns whether it did."""
-    fresh = HASHER.hash(new)
-    while (text := text_of(db, name)) is not None and accepts(text, old):
+    text, fresh = text_of(db, name), None
+    # (an unknown name takes as long as a wrong password)
+    while accepts(text or NOBODY, old) and text is not None:
+        fresh = fresh or hashed(new)
         if replace(db, name, text, fresh):
             return True
+        text = text_of(db, name)
     return False

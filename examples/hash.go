@@ -13,14 +13,22 @@ import (
 	"unsafe"
 )
 
-// hash returns the text of a password that is not empty, or why there is none.
+// start returns where bytes begin. No bytes begin nowhere.
+func start(of []byte) unsafe.Pointer {
+	if len(of) == 0 {
+		return nil
+	}
+	return unsafe.Pointer(&of[0])
+}
+
+// hash returns the text of a password, or why there is none.
 func hash(password []byte) (string, error) {
 	salt := make([]byte, 16)
 	if _, err := rand.Read(salt); err != nil {
 		return "", err
 	}
 	text := make([]byte, 128)
-	code := C.argon2id_hash_encoded(2, 19456, 1, unsafe.Pointer(&password[0]), C.size_t(len(password)),
+	code := C.argon2id_hash_encoded(2, 19456, 1, start(password), C.size_t(len(password)),
 		unsafe.Pointer(&salt[0]), C.size_t(len(salt)), 32, (*C.char)(unsafe.Pointer(&text[0])), C.size_t(len(text)))
 	if code != C.ARGON2_OK {
 		return "", errors.New(C.GoString(C.argon2_error_message(code)))
@@ -28,11 +36,11 @@ func hash(password []byte) (string, error) {
 	return C.GoString((*C.char)(unsafe.Pointer(&text[0]))), nil
 }
 
-// accepts tells whether a stored text accepts a password that is not empty, or why it can't be verified.
+// accepts tells whether a stored text accepts a password, or why it can't be verified.
 func accepts(text string, password []byte) (bool, error) {
 	encoded := C.CString(text)
 	defer C.free(unsafe.Pointer(encoded))
-	code := C.argon2id_verify(encoded, unsafe.Pointer(&password[0]), C.size_t(len(password)))
+	code := C.argon2id_verify(encoded, start(password), C.size_t(len(password)))
 	if code != C.ARGON2_OK && code != C.ARGON2_VERIFY_MISMATCH {
 		return false, errors.New(C.GoString(C.argon2_error_message(code)))
 	}

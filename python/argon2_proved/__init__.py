@@ -1,8 +1,8 @@
 """Passwords under a secret and within a bound, by the functions of argon2_phc.h.
 
 A `PasswordHasher` has the parameters of new texts, the secret, and the bound of the texts that it accepts. Texts are PHC
-strings. A password is bytes, or a str that stands for its bytes in UTF-8. What the library refuses is an `Error`. Other threads
-run while a hash is made.
+strings. A password is bytes, or a str that stands for its bytes in UTF-8. What the library refuses is an `Error`; a str that has
+no bytes in UTF-8 is a `ValueError`, which does not hold it. Other threads run while a hash is made.
 """
 
 from __future__ import annotations
@@ -85,9 +85,21 @@ def _must(code: int) -> None:
         raise Error(code)
 
 
+def _bytes_of(value: str | bytes) -> bytes:
+    """The bytes of a value, those of a str in UTF-8. They are a copy of bytes that can change."""
+    if not isinstance(value, str):
+        return bytes(memoryview(value))
+    try:
+        return value.encode()
+    except UnicodeEncodeError:
+        # (this error holds the value, which may be a password, so the error that is raised has no context either)
+        pass
+    raise ValueError("a str with half of a pair of surrogates has no bytes in UTF-8")
+
+
 def _buffer(value: str | bytes) -> Any:
     """The bytes of a value, which are not copied if it is no str, and stay as long as what this returns."""
-    return _ffi.from_buffer(value.encode() if isinstance(value, str) else value)
+    return _ffi.from_buffer(_bytes_of(value) if isinstance(value, str) else value)
 
 
 def _text(value: str) -> Any:
@@ -119,6 +131,8 @@ class PasswordHasher:
     data: enters the hash of new texts, and stands in them
     bound: what a text may cost that is verified
     threads: the most that fill the lanes of a hash; 0 is as many as lanes
+
+    Secrets, the key identifier and the data are copied, so the caller may clear what it gave. The copies stay as long as this.
     """
 
     def __init__(
@@ -137,8 +151,10 @@ class PasswordHasher:
         bound: Bound = Bound(),
         threads: int = 0,
     ) -> None:
+        # (copies, so that these bytes stay if the caller clears or changes what is given)
+        values = [_bytes_of(it) for it in (secret, b"" if old_secret is None else old_secret, keyid, data)]
         # (what a structure of C points to is kept here)
-        self._held = [_buffer(it) for it in (secret, old_secret or b"", keyid, data)]
+        self._held = [_buffer(it) for it in values]
         key, old, name, more = self._held
         self._params = _structure(
             "argon2p_params", algorithm=algorithm, version=version, m_cost=memory_cost, t_cost=time_cost, p_cost=parallelism,
@@ -151,13 +167,16 @@ class PasswordHasher:
             secret_len=len(key), old_secret=_ffi.NULL if old_secret is None else old, old_secret_len=len(old),
         )  # fmt: skip
         self._hash_len = hash_len
+        self._kind = algorithm, version, values[2], values[3]
         _must(_lib.argon2p_check(self._params))
 
     def hash(self, password: str | bytes, *, salt: bytes | None = None) -> str:
         """The text of a password, with this salt of 8 to 48 bytes, or one of 16 bytes that the system draws."""
         given, text = _buffer(password), _ffi.new("char[]", _lib.ARGON2P_TEXT_SIZE)
-        start = _ffi.NULL if salt is None else _buffer(salt)
-        _must(_lib.argon2p_hash(self._params, given, len(given), start, len(salt or b""), text, len(text)))
+        # (the bytes of a value need not be as many as its items, and no bytes also have an address, so that no salt is drawn)
+        start = _ffi.from_buffer(b"" if salt is None else _bytes_of(salt))
+        place = _ffi.NULL if salt is None else start
+        _must(_lib.argon2p_hash(self._params, given, len(given), place, len(start), text, len(text)))
         made: bytes = _ffi.string(text)
         return made.decode()
 
@@ -167,9 +186,16 @@ class PasswordHasher:
         return True
 
     def log_in(self, text: str, password: str | bytes) -> str:
-        """Verifies, and returns the text to store from now on: a new one if this is under the old secret or needs renewal."""
-        if self._is_by_old_secret(text, password) or self.needs_rehash(text):
-            return self.hash(password)
+        """Verifies, and returns the text to store from now on: a new one if this is under the old secret or weaker than new ones.
+
+        A text is weaker if it has another algorithm, version, key identifier or data, a lower cost, or a shorter hash. It stays
+        if no new one can be made, as there is no memory, say: a password that is accepted never gets an error.
+        """
+        if self._is_by_old_secret(text, password) or self._is_weaker(text):
+            try:
+                return self.hash(password)
+            except Error:
+                pass
         return text
 
     def needs_rehash(self, text: str) -> Renewal:
@@ -184,6 +210,12 @@ class PasswordHasher:
         size = len(given), len(start)
         _must(_lib.argon2p_hash_into(self._params, given, size[0], start, size[1], _buffer(out), len(out), _ffi.NULL, 0))
         return bytes(out)
+
+    def _is_weaker(self, text: str) -> bool:
+        """Whether a text of Argon2 is weaker than new ones."""
+        shown = parse(text)
+        kind = shown.algorithm, shown.version, shown.keyid, shown.data
+        return kind != self._kind or self.needs_rehash(text) == Renewal.BELOW
 
     def _is_by_old_secret(self, text: str, password: str | bytes) -> bool:
         """Verifies, and returns whether the old secret accepted."""
