@@ -70,13 +70,31 @@ static size_t length(const void *at, size_t n) { return at ? n : 0; }
 
 int FLAG_clear_internal_memory = 1;
 
-/* Clears the registers that a call may change, if the compiler can: vector registers may have a part of a tag. Those that only
- * AVX-512 has stay as they are. */
+/* Clears the registers that a call may change, if the compiler can: vector registers may have a part of a tag. */
 #if __has_attribute(zero_call_used_regs)
 __attribute__((noinline, zero_call_used_regs("all")))
 #endif
-static void clear_registers(void) {
+static void clear_known_registers(void) {
     __asm__ volatile("");
+}
+
+#ifdef __x86_64__
+/* Clears those that only AVX-512 has, of which compilers know nothing here. glibc copies by them. */
+__attribute__((noinline, target("avx512f"))) static void clear_further_registers(void) {
+    __asm__ volatile(
+        ".irp n, 16, 17, 18, 19, 20, 21, 22, 23, 24, 25, 26, 27, 28, 29, 30, 31\n\t"
+        "vpxord %%zmm\\n, %%zmm\\n, %%zmm\\n\n\t"
+        ".endr"
+        ::: "xmm16", "xmm17", "xmm18", "xmm19", "xmm20", "xmm21", "xmm22", "xmm23", "xmm24", "xmm25", "xmm26", "xmm27", "xmm28",
+        "xmm29", "xmm30", "xmm31");
+}
+#endif
+
+static void clear_registers(void) {
+#ifdef __x86_64__
+    if (__builtin_cpu_supports("avx512f")) clear_further_registers();
+#endif
+    clear_known_registers();
 }
 
 /* Registers first: the loader can save them on the stack when explicit_bzero is called for the first time. */

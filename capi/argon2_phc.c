@@ -188,13 +188,19 @@ int argon2p_check(const argon2p_params *params) {
 
 int argon2p_parse(const char *text, size_t text_len, argon2p_shown *shown) {
     struct phc_shown own = {0};
+    size_t size;
     int answer;
-    if (!shown || shown->size < sizeof *shown || shown->size > LARGEST) return ARGON2P_STRUCT;
+    if (!shown) return ARGON2P_STRUCT;
+    memcpy(&size, shown, sizeof size);
+    if (size < sizeof *shown || size > LARGEST) return ARGON2P_STRUCT;
     if (lacks(text, text_len)) return ARGON2P_TEXT_NULL;
     answer = argon2_c_phc_show(some(text), text_len, &own);
-    if (answer == ARGON2P_TEXT_INVALID) return answer;
-    memset((uint8_t *)shown + sizeof shown->size, 0, shown->size - sizeof shown->size);
-    memcpy((uint8_t *)shown + offsetof(argon2p_shown, name_len), &own, sizeof own);
+    if (answer != ARGON2P_TEXT_INVALID) {
+        memset((uint8_t *)shown + sizeof size, 0, size - sizeof size);
+        memcpy((uint8_t *)shown + offsetof(argon2p_shown, name_len), &own, sizeof own);
+    }
+    wipe(&own, sizeof own);
+    wipe_stack();
     return answer;
 }
 
@@ -216,6 +222,7 @@ int argon2p_needs_rehash(const argon2p_params *wanted, const char *text, size_t 
     code = argon2_c_params_refusal(&request, &lengths);
     if (code != ARGON2P_OK) return code;
     code = argon2_c_phc_renewal(&request, hash_length(&p), some(p.keyid), p.keyid_len, some(p.data), p.data_len, some(text), text_len);
+    wipe_stack();
     if (code < 0) return code;
     *answer = code;
     return ARGON2P_OK;
@@ -231,15 +238,34 @@ static int verify_on(const argon2_context *c, const struct phc_shown *shown, blo
     return answer;
 }
 
+/* Whether an admitted text accepts a password under a verifier's secret or, which sets `is_old`, its old secret. */
+static int verify_admitted(const argon2p_verifier *own, const struct phc_shown *shown, const void *pwd, size_t pwd_len,
+    bool *is_old) {
+    uint8_t tag[ARGON2P_MAX_OUTPUT];
+    argon2_context c = {
+        .out = tag, .outlen = shown->output_len, .pwd = some(pwd), .pwdlen = (uint32_t)pwd_len,
+        .salt = (uint8_t *)shown->salt, .saltlen = shown->salt_len, .secret = (uint8_t *)own->secret,
+        .secretlen = (uint32_t)own->secret_len, .ad = (uint8_t *)shown->associated, .adlen = shown->associated_len,
+        .t_cost = shown->t_cost, .m_cost = shown->m_cost, .lanes = shown->p_cost,
+        .threads = own->threads && own->threads < shown->p_cost ? own->threads : shown->p_cost, .version = shown->version,
+    };
+    block *memory = new_blocks(block_count(&c));
+    int answer = memory ? verify_on(&c, shown, memory) : ARGON2P_OUT_OF_MEMORY;
+    if (answer == ARGON2P_MISMATCH && own->has_old_secret) {
+        c.secret = (uint8_t *)own->old_secret, c.secretlen = (uint32_t)own->old_secret_len;
+        answer = verify_on(&c, shown, memory);
+        *is_old = true;
+    }
+    if (memory) free_blocks(memory, block_count(&c));
+    return answer;
+}
+
 /* By the law `verifying_within` of argon2_c all three calls return 0 exactly if the text accepts the password. */
 int argon2p_verify(const argon2p_verifier *verifier, const char *text, size_t text_len, const void *pwd, size_t pwd_len,
     int *by_old_secret) {
-    uint8_t tag[ARGON2P_MAX_OUTPUT];
     argon2p_verifier own;
     struct phc_bound bound;
     struct phc_shown shown = {0};
-    argon2_context c;
-    block *memory;
     bool is_old = false;
     int answer = read_verifier(&own, verifier);
     if (answer != ARGON2P_OK) return answer;
@@ -248,22 +274,7 @@ int argon2p_verify(const argon2p_verifier *verifier, const char *text, size_t te
     if (lacks(own.secret, own.secret_len) || lacks(own.old_secret, own.old_secret_len)) return ARGON2P_SECRET_NULL;
     bound = (struct phc_bound){own.m_cost, own.t_cost, own.p_cost, own.min_output, own.max_output};
     answer = argon2_c_phc_admit(&bound, some(text), text_len, pwd_len, own.secret_len, own.old_secret_len, &shown);
-    if (answer != ARGON2P_OK) return answer;
-    c = (argon2_context){
-        .out = tag, .outlen = shown.output_len, .pwd = some(pwd), .pwdlen = (uint32_t)pwd_len,
-        .salt = shown.salt, .saltlen = shown.salt_len, .secret = (uint8_t *)own.secret, .secretlen = (uint32_t)own.secret_len,
-        .ad = shown.associated, .adlen = shown.associated_len, .t_cost = shown.t_cost, .m_cost = shown.m_cost,
-        .lanes = shown.p_cost, .threads = own.threads && own.threads < shown.p_cost ? own.threads : shown.p_cost,
-        .version = shown.version,
-    };
-    memory = new_blocks(block_count(&c));
-    answer = memory ? verify_on(&c, &shown, memory) : ARGON2P_OUT_OF_MEMORY;
-    if (answer == ARGON2P_MISMATCH && own.has_old_secret) {
-        c.secret = (uint8_t *)own.old_secret, c.secretlen = (uint32_t)own.old_secret_len;
-        answer = verify_on(&c, &shown, memory);
-        is_old = true;
-    }
-    if (memory) free_blocks(memory, block_count(&c));
+    if (answer == ARGON2P_OK) answer = verify_admitted(&own, &shown, pwd, pwd_len, &is_old);
     wipe(&shown, sizeof shown);
     wipe_stack();
     if (answer == ARGON2P_OK && by_old_secret) *by_old_secret = is_old;

@@ -6,6 +6,7 @@
 #define _GNU_SOURCE
 #include "argon2_phc.h"
 #include "counts.h"
+#include "leftovers.h"
 
 #include <malloc.h>
 #include <pthread.h>
@@ -326,6 +327,7 @@ static void shown_texts(void) {
         argon2p_shown shown;
         uint8_t more[16];
     } later;
+    char odd[sizeof s + 1];
     check(argon2p_parse(TEXT, strlen(TEXT), &s) == ARGON2P_OK, "a text", 0);
     check(s.name_len == 8 && s.has_version == 1 && s.text_version == 19 && s.params_at == 15 && s.params_len == 35, "its fields", 0);
     check(s.salt_len == 8 && !memcmp(s.salt, "somesalt\0\0", 10) && s.output_len == 32 && !memcmp(s.output, tag, 32)
@@ -340,6 +342,9 @@ static void shown_texts(void) {
     check(argon2p_parse(NULL, 3, &s) == ARGON2P_TEXT_NULL, "no text", 0);
     check(argon2p_parse(TEXT, strlen(TEXT), NULL) == ARGON2P_STRUCT, "no room", 0);
     s.size--, check(argon2p_parse(TEXT, strlen(TEXT), &s) == ARGON2P_STRUCT, "too little room", 0);
+    s.size = sizeof s, memcpy(odd + 1, &s, sizeof s);
+    check(argon2p_parse(TEXT, strlen(TEXT), (void *)(odd + 1)) == ARGON2P_OK
+        && !memcmp(odd + 1 + offsetof(argon2p_shown, output), tag, 32), "a structure at an odd address", 0);
     s.size = SIZE_MAX, check(argon2p_parse(TEXT, strlen(TEXT), &s) == ARGON2P_STRUCT, "no size", 0);
     memset(&later, 7, sizeof later), later.shown.size = sizeof later.shown + 8;
     check(argon2p_parse(TEXT, strlen(TEXT), &later.shown) == ARGON2P_OK && later.more[7] == 0 && later.more[8] == 7, "a later structure", 0);
@@ -459,16 +464,27 @@ static void lent_blocks(void) {
 /* ---- each request for memory refused in turn, and wiping */
 
 #ifndef __SANITIZE_ADDRESS__ /* which has larger frames */
+enum { HASHES = 4, CALLS = 8 };
+
+static argon2p_shown shown_here = ARGON2P_SHOWN_INIT;
+
 static int call(int which) {
     static char text[ARGON2P_TEXT_SIZE];
     static uint8_t out[32];
     argon2p_params p = params();
+    argon2p_verifier small = verifier();
     int answer, by_old = 7;
-    memset(text, 7, sizeof text), memset(out, 7, 32), requests = 0, counting = true;
+    small.t_cost = 1;
+    memset(text, 7, sizeof text), memset(out, 7, 32), forget_registers(), requests = 0, counting = true;
     if (which == 0) answer = hash(p, "somesalt", text, sizeof text);
     else if (which == 1) answer = verify(verifier(), TEXT, "password", &by_old);
     else if (which == 2) answer = into(&p, out, 32, NULL, 0);
-    else answer = verify(verifier(), LARGE, "password", &by_old);
+    else if (which == 3) answer = verify(verifier(), LARGE, "password", &by_old);
+    else if (which == 4) answer = verify(small, TEXT, "password", &by_old);
+    else if (which == 5) answer = argon2p_parse(TEXT, strlen(TEXT), &shown_here);
+    else if (which == 6) answer = argon2p_parse(TEXT "=", strlen(TEXT) + 1, &shown_here);
+    else answer = argon2p_needs_rehash(&p, TEXT, strlen(TEXT), &by_old);
+    copy_registers();
     counting = false;
     return answer && (text[0] != 7 || out[0] != 7 || by_old != 7) ? 1 : answer;
 }
@@ -482,19 +498,18 @@ static void *call_here(void *which) {
     return NULL;
 }
 
-/* No eight bytes of the tag stay on the stack, of which a call takes up to 32 KiB. */
+/* No eight bytes of the tag stay on the stack, of which a call takes up to 32 KiB, or in a register. Of calls that hash nothing the
+ * tag is that of their text. */
 static void stacks_of_calls(void) {
-    for (int which = 0; which < 3; which++) {
+    for (int which = 0; which < CALLS; which++) {
         pthread_attr_t attributes;
         pthread_t thread;
-        int found = 0;
         size_t untouched = 0;
         memset(stack, 0xA5, sizeof stack);
         pthread_attr_init(&attributes), pthread_attr_setstack(&attributes, stack, sizeof stack);
         check(!pthread_create(&thread, &attributes, call_here, &which) && !pthread_join(thread, NULL), "a thread", which);
-        for (size_t i = 0; i + 8 <= sizeof stack; i++)
-            for (int part = 0; part < 32; part += 8) found += !memcmp(stack + i, tag + part, 8);
-        check(found == 0, "no tag on the stack", which);
+        check(pieces(stack, sizeof stack, tag) == 0, "no tag on the stack", which);
+        check(pieces_in_registers(tag) == 0, "no tag in a register", which);
         while (stack[untouched] == 0xA5) untouched++;
         check(top - stack - untouched <= 32 << 10, "32 KiB of stack", top - stack - untouched);
     }
@@ -511,7 +526,7 @@ static void changed_text(void) {
 
 static void refused_memory(void) {
     refuse = 1, stacks_of_calls(), refuse = 0;
-    for (int which = 0; which < 4; which++) {
+    for (int which = 0; which < HASHES; which++) {
         int answer;
         unwiped = 0;
         for (refuse = 1; answer = call(which), requests >= refuse; refuse++)
