@@ -1,5 +1,5 @@
 -- What passwords make of a value: within a bound, accepted, no weaker than a target.
-use Rattle.std.proofs.Common.{◌≡◌, ℕ, ◌*◌, ◌≤◌, Bool, if◌then◌else◌, List, Option, Bor, option_copied, Some, None, Result, Ok, Err, ◌⊎◌, ◌∷◌, ◌++◌, inl, inr, ap, refl, subst, sym, arith, div-mul-le_self}
+use Rattle.std.proofs.Common.{◌≡◌, ◌∙◌, ℕ, [], take, ◌*◌, ◌≤◌, Bool, if◌then◌else◌, List, Option, Bor, option_copied, Some, None, Result, Ok, Err, ◌⊎◌, ◌∷◌, ◌++◌, inl, inr, ap, refl, subst, sym, arith, div-mul-le_self}
 use Rattle.std.proofs.lemmas.Bool.Decides.{nat_tests}
 use Rattle.std.specs.Option.{unwrap_or}
 use Rattle.std.specs.Prelude.{◌≢◌, is_some, IfErr, IfOk, IsErrAnd, IsSomeAnd, ok_or}
@@ -19,11 +19,10 @@ use Rattle.argon2.proofs.password_hash_lemmas.MadeValues.{made_accepts, made_sho
 use Rattle.argon2.proofs.password_hash_lemmas.Verified.{exact}
 use Rattle.argon2.specs.declared.bound.BoundError.TheVariants as bound
 use Rattle.argon2_policy.specs.Policy.{AcceptsBy, AsksWithin, Bound, BoundError, Denial, Error, IsHashRefusal, IsDenial, IsFresh, IsWithin, OutOfMemory, Phc, Refused, SettingsValue, TargetValue, TooExpensive}
-use Rattle.argon2_policy.specs.Policy.{IsAged, IsHashedFor, IsOutdated, IsShut, Recent, SaysValue, hashes_of_wrong, shown_settings, text_of}
+use Rattle.argon2_policy.specs.Policy.{AsksFor, HashValue, IsAged, IsOutdated, IsShut, Recent, SaysValue, hash_of, hashes_of_wrong, settings_or_target, shown_settings, text_of}
 use Rattle.argon2_policy.specs.Denials.{Locked, NameUnknown, OtherScheme}
 use Rattle.argon2_policy.specs.declared.policy.Age.{Age}
 use Rattle.argon2_programs.specs.Schemes.{scheme_of}
-use Rattle.argon2_programs.specs.declared.schemes.Scheme.{Scheme}
 pub use Rattle.argon2_policy.specs.Policy.{Admits, AdmitsStored, IsFound, IsVerifyAnswer, IsPolicy, Outdated, PasswordInvalid, PolicyValue, IsSecretsRefusal, drawn_salt, phc_of, policy_value}
 
 -- ---- the bound
@@ -176,19 +175,6 @@ pub says_nothing : (stored : Option (List ℕ)) (why : Denial) → IsShut stored
 says_nothing None why shut v says = says
 says_nothing (Some text) why shut v says = let locked = says.0 in let scheme = says.1 in let is = says.2 in grind arith
 
--- what is shut is refused for another reason than memory or the bound
-module _ (policy : PolicyValue) (n : ℕ) (is : n ≡ hashes_of_wrong policy) where
-  hashed_for_scheme : (o : Option Scheme) (why : Denial) → IsSomeAnd o (λ scheme. why ≡ OtherScheme scheme)
-      → IsHashedFor policy why n
-  hashed_for_scheme None why some = absurd some
-  hashed_for_scheme (Some scheme) why same = rw same is
-
-  pub hashed_as_wrong : (stored : Option (List ℕ)) (why : Denial) → IsShut stored why → IsHashedFor policy why n
-  hashed_as_wrong None why same = rw same is
-  hashed_as_wrong (Some text) why (inl (locked, same)) = rw same is
-  hashed_as_wrong (Some text) why (inr (inl (unlocked, some))) = hashed_for_scheme (scheme_of text) why some
-  hashed_as_wrong (Some text) why (inr (inr (unlocked, none, never, same))) = rw same is
-
 -- what says a value is a text
 pub is_text : (o : Option (Bor (List ℕ))) (v : Phc) → SaysValue (option_copied o) v
     → (text : List ℕ) × (option_copied o ≡ Some text)
@@ -277,12 +263,20 @@ pub outdated : (policy : PolicyValue) (password : List ℕ) (v : Phc) (age : Age
 outdated policy password v Recent isnt found = absurd (isnt refl)
 outdated policy password v Outdated isnt found = found
 
-at_least_once : (o : Option (List ℕ)) (n : ℕ) → n ≡ 1 → n ≤ (if is_some o then 2 else 1)
-at_least_once o n once = grind arith
+-- ---- hashes
+
+once : (o : Option (List ℕ)) (hash : HashValue) → hash ∷ [] ≡ take 1 (if is_some o then hash ∷ hash ∷ [] else hash ∷ [])
+once None hash = refl
+once (Some secret) hash = refl
 
 -- without memory a password is hashed once
-pub hashed_once : (policy : PolicyValue) (e : Error) (n : ℕ) → (e ≡ PasswordInvalid) ⊎ (e ≡ OutOfMemory)
-    → e ≢ PasswordInvalid → n ≡ 1
-    → IsHashedFor policy (Refused e) n
-hashed_once policy e n (inl wrong) isnt once = absurd (isnt wrong)
-hashed_once policy e n (inr memory) isnt once = rw memory (at_least_once policy.old_secret n once)
+pub asked_once : (policy : PolicyValue) (password : List ℕ) (v : Phc) (stored : StoredValue) (e : Error) (hashes : List HashValue)
+    → stored_of v ≡ Ok stored → IsVerifyAnswer policy.target.secret password v (Err e) → e ≢ PasswordInvalid
+    → hashes ≡ hash_of stored.settings password ∷ []
+    → AsksFor (hashes_of_wrong policy (settings_or_target policy.target (stored_of v)) password) (Refused e) hashes
+asked_once policy password v stored e hashes is answer isnt same =
+    subst (λ r. AsksFor (hashes_of_wrong policy (settings_or_target policy.target r) password) (Refused e) hashes) (sym is)
+    (elim (memory_or_wrong policy password v stored is policy.target.secret e answer) [
+      | inl wrong ↦ absurd (isnt wrong)
+      | inr memory ↦ inr (ap Refused memory, (1, same ∙ once policy.old_secret (hash_of stored.settings password)))
+    ])

@@ -1,3 +1,4 @@
 pub mod Denials
+pub mod Hashes
 pub mod Policy
 pub mod StoredFor

@@ -1,24 +1,25 @@
 -- What callers see of a policy, and what its calls make of what a text says. The words that the contracts share are passed on.
-use Rattle.std.specs.Prelude.{◌≡◌, ◌≢◌, ◌⊎◌, ℕ, ◌≤◌, ◌<◌, List, if◌then◌else◌, Option, None, IsSomeAnd, Result, Ok, Err}
-use Rattle.std.specs.Option.{is_some, option_map}
+use Rattle.std.specs.Prelude.{◌≡◌, ◌≢◌, ◌⊎◌, ℕ, ◌≤◌, ◌<◌, List, [], ◌∷◌, if◌then◌else◌, Option, None, IsSomeAnd, Result, Ok, Err, take}
+use Rattle.std.specs.Option.{is_some, option_copied}
 pub use Rattle.rand_core.specs.Stream.{Stream}
+use Rattle.argon2_base.specs.Error.{Fault}
 pub use Rattle.argon2_base.specs.PhcText.{Phc}
 pub use Rattle.argon2_base.specs.declared.error.password_hash.Error.{Error}
 pub use Rattle.argon2_base.specs.PhcFields.{phc_of, text_of}
 pub use Rattle.argon2_base.specs.declared.error.password_hash.Error.TheVariants.{OutOfMemory, OutputSize, PasswordInvalid}
-use Rattle.argon2.specs.Argon2.{secret_of}
 pub use Rattle.argon2.specs.Bound.{AsksWithin, IsHashRefusal, IsWithin, IsStoredRefusal}
 pub use Rattle.argon2.specs.TextHashing.{IsHashingRefusal, IsFresh, IsTarget, TargetValue, after_salt, drawn_salt, tag_length, target_of}
 pub use Rattle.argon2.specs.Refusals.{max_len}
 pub use Rattle.argon2.specs.Settings.{SettingsValue}
 pub use Rattle.argon2.specs.NamedTexts.{accepted_by, stream_after, value_after}
-pub use Rattle.argon2.specs.StoredTexts.{AcceptsBy, IsVerifyAnswer, settings_value, shown_settings}
+pub use Rattle.argon2.specs.StoredTexts.{AcceptsBy, IsVerifyAnswer, StoredValue, settings_value, shown_settings, stored_of}
 pub use Rattle.argon2.specs.declared.bound.Bound.{Bound}
 pub use Rattle.argon2.specs.declared.bound.BoundError.{BoundError}
 use Rattle.argon2.specs.declared.bound.BoundError.TheVariants as bound
 use Rattle.argon2.specs.declared.login.answers.Accepted.{Accepted}
 pub use Rattle.argon2.specs.declared.login.answers.Accepted.TheVariants.{Current, Kept, Rehashed}
 pub use Rattle.argon2_policy.specs.Denials.{Denial, Refused, TooExpensive}
+pub use Rattle.argon2_policy.specs.Hashes.{HashValue, hash_of}
 pub use Rattle.argon2_policy.specs.StoredFor.{IsShut, SaysValue}
 use Rattle.argon2_policy.specs.declared.policy.Age.{Age}
 pub use Rattle.argon2_policy.specs.declared.policy.Age.TheVariants.{Outdated, Recent}
@@ -38,7 +39,7 @@ pub record IsPolicy (policy : PolicyValue) : Type 0 where
 -- what a contract sees of the code's policy
 abbrev pub policy_value : Policy → PolicyValue
 policy_value own =
-    record { target = target_of own.target; old_secret = option_map secret_of own.old; bound = own.bound }
+    record { target = target_of own.target; old_secret = option_copied own.old; bound = own.bound }
 
 -- why there is no policy of a target and a bound
 abbrev pub IsPolicyRefusal : TargetValue → Bound → BoundError → Type 0
@@ -111,16 +112,28 @@ IsDenial policy password v _ = ⊥
 abbrev pub Denies : PolicyValue → List ℕ → Option (List ℕ) → Denial → Type 0
 Denies policy password stored why = IsShut stored why ⊎ ((v : Phc) × SaysValue stored v × IsDenial policy password v why)
 
--- how often a wrong password is hashed: once, and once more under an old secret
-abbrev pub hashes_of_wrong : PolicyValue → ℕ
-hashes_of_wrong policy = if is_some policy.old_secret then 2 else 1
+-- how a password is hashed that is wrong for a text of these settings: once, and once more under an old secret
+abbrev pub hashes_of_wrong : PolicyValue → SettingsValue → List ℕ → List HashValue
+hashes_of_wrong policy settings password = let hash = hash_of settings password in
+    if is_some policy.old_secret then hash ∷ hash ∷ [] else hash ∷ []
 
--- how often a password is hashed that is refused for this reason: as often as a wrong one, unless the text is above the bound or
--- memory is refused
-abbrev pub IsHashedFor : PolicyValue → Denial → ℕ → Type 0
-IsHashedFor policy TooExpensive n = n ≡ 0
-IsHashedFor policy (Refused OutOfMemory) n = n ≤ hashes_of_wrong policy
-IsHashedFor policy why n = n ≡ hashes_of_wrong policy
+-- the settings of a text that can be verified, or the target's
+abbrev pub settings_or_target : TargetValue → Result StoredValue Fault → SettingsValue
+settings_or_target target (Ok stored) = stored.settings
+settings_or_target target (Err fault) = target.settings
+
+-- which hashes are asked for if a password is refused for this reason: those of a wrong one, none if the text is above the
+-- bound, and perhaps fewer without memory
+abbrev pub AsksFor : List HashValue → Denial → List HashValue → Type 0
+AsksFor wrong TooExpensive hashes = hashes ≡ []
+AsksFor wrong why hashes = (hashes ≡ wrong) ⊎ ((why ≡ Refused OutOfMemory) × ((n : ℕ) × (hashes ≡ take n wrong)))
+
+-- those for what is stored, which refuses the password: under the target's settings unless it can be verified
+abbrev pub HashesRefused : PolicyValue → List ℕ → Option (List ℕ) → Denial → List HashValue → Type 0
+HashesRefused policy password stored why hashes =
+    (IsShut stored why × (hashes ≡ hashes_of_wrong policy policy.target.settings password))
+    ⊎ ((v : Phc) × SaysValue stored v
+    × AsksFor (hashes_of_wrong policy (settings_or_target policy.target (stored_of v)) password) why hashes)
 
 -- ---- what calls answer, and what they make of a value
 

@@ -1,34 +1,46 @@
-//! A count of hashes.
+//! Which hashes a call asks for.
 
-ghost use Rattle.std.specs.Prelude.{◌≡◌, ◌+◌, ◌<◌, ℕ, Ok};
+ghost use Rattle.std.specs.Prelude.{◌≡◌, ◌<◌, ◌≤◌, ◌∷◌, ◌++◌, [], List, Ok, length};
 ghost use Rattle.argon2_base.specs.PhcText.{Phc};
-ghost use Rattle.argon2.specs.Argon2.{secret_of};
-ghost use Rattle.argon2.specs.StoredTexts.{IsVerifyAnswer, stored_of, stored_value};
-ghost use Rattle.argon2.specs.TextHashing.{IsHashAnswer, target_of};
+ghost use Rattle.argon2.specs.Argon2.{secret_of, settings_of};
+ghost use Rattle.argon2.specs.StoredTexts.{IsVerifyAnswer, settings_value, stored_of, stored_value};
+ghost use Rattle.argon2.specs.TextHashing.{tag_length};
+ghost use Rattle.argon2_policy.specs.Hashes.{HashValue, hash_of, hashes_of};
 
-use argon2::password_hash::{Result, Stored};
-use argon2::{Argon2, PasswordHash, PasswordHasher};
+use argon2::password_hash::{Error, Result, Settings, Stored};
+use argon2::{Argon2, PasswordHasher};
 use std::alloc::Global;
 use std::marker::Model;
 
-/// How often a password was hashed. Nothing but what hashes one adds to it, and it can't be copied.
+/// A hash that was asked for: the settings that it is made under, and how many bytes its password has.
+#[derive(Clone, Copy)]
+struct Hash {
+    settings: Settings,
+    password_len: usize,
+}
+
+/// The hashes that a call has asked for, at most two, in order. Nothing except what hashes adds to them.
 #[derive(Drop)]
 pub(crate) struct Hashes {
-    made: u8,
+    first: Option<Hash>,
+    second: Option<Hash>,
 }
 
 impl Model for Hashes {
-    ghost Value = { ℕ };
+    ghost Value = { List HashValue };
 
-    ghost view = { λ hashes. hashes.made };
+    ghost view = { λ hashes. hashes_of hashes.first hashes.second };
 }
 
 impl Hashes {
     /// No hash yet.
     pub(crate) fn new() -> Hashes
-        ensures { result ≡ 0 }
+        ensures { result ≡ [] }
     {
-        Hashes { made: 0 }
+        Hashes {
+            first: None,
+            second: None,
+        }
     }
 
     /// Verifies a password by what a text shows, as [`Argon2::verify_stored`].
@@ -39,28 +51,47 @@ impl Hashes {
         password: &[u8],
         stored: &Stored<'_>,
     ) -> Result<()>
-        requires { self.old < 255 }
+        requires { length self.old < 2 }
         ensures answer { (v : Phc) → stored_of v ≡ Ok (stored_value stored.now)
             → IsVerifyAnswer (secret_of argon2.now) password.now v result }
-        ensures counted { self.new ≡ self.old + 1 }
+        ensures noted { self.new ≡ self.old ++ hash_of (settings_value stored.now.settings) password.now ∷ [] }
     {
-        self.made += 1;
+        self.note(stored.settings, password);
         argon2.verify_stored(alloc, password, stored)
     }
 
-    /// Hashes a password with a salt, as [`PasswordHasher::hash_password_with_salt`].
-    pub(crate) fn make(
-        &mut self,
-        argon2: &Argon2<'_>,
-        alloc: Global,
-        password: &[u8],
-        salt: &[u8],
-    ) -> Result<PasswordHash>
-        requires { self.old < 255 }
-        ensures answer { IsHashAnswer (target_of argon2.now) password.now salt.now result }
-        ensures counted { self.new ≡ self.old + 1 }
+    /// Hashes a password under an `Argon2`, and drops the hash.
+    pub(crate) fn make(&mut self, argon2: &Argon2<'_>, alloc: Global, password: &[u8])
+        requires room { length self.old < 2 }
+        requires fits { tag_length (settings_of argon2.now) ≤ 64 }
+        ensures { self.new ≡ self.old ++ hash_of (settings_of argon2.now) password.now ∷ [] }
     {
-        self.made += 1;
-        argon2.hash_password_with_salt(alloc, password, salt)
+        let settings = Settings {
+            algorithm: argon2.algorithm(),
+            version: argon2.version(),
+            params: *argon2.params(),
+        };
+        match argon2.hash_password_with_salt(alloc, password, &[0; 16]) {
+            // (these are refused without a hash)
+            Err(Error::SaltInvalid | Error::OutputSize) => {}
+            _ => self.note(settings, password),
+        }
+    }
+
+    // Adds a hash.
+    fn note(&mut self, settings: Settings, password: &[u8])
+        requires { length self.old < 2 }
+        ensures { self.new ≡ self.old ++ hash_of (settings_value settings) password.now ∷ [] }
+    {
+        let hash = Hash {
+            settings,
+            password_len: password.len(),
+        };
+        if self.first.is_none() {
+            self.first = Some(hash);
+            self.second = None;
+        } else {
+            self.second = Some(hash);
+        }
     }
 }

@@ -1,9 +1,11 @@
 //! What passwords are hashed and verified under.
 
 ghost use Rattle.std.proofs.Props.{props};
-ghost use Rattle.std.specs.Prelude.{◌≡◌, unwrap_or};
-ghost use Rattle.argon2.specs.Argon2.{parameters_of, settings_of};
+ghost use Rattle.std.specs.Prelude.{◌≡◌, ◌≤◌, length, unwrap_or};
+ghost use Rattle.std.specs.Option.{ForSome};
+ghost use Rattle.argon2.specs.Argon2.{parameters_of, secret_of, settings_of};
 ghost use Rattle.argon2.specs.Bound.{IsWithin};
+ghost use Rattle.argon2.specs.Refusals.{max_len};
 ghost use Rattle.argon2.specs.TextHashing.{IsTarget, target_of};
 
 use crate::denial::Denial;
@@ -13,7 +15,7 @@ use argon2::bound::{Bound, BoundError};
 use argon2::login::{Accepted, LoggedIn};
 use argon2::password_hash::{Error, Settings};
 use argon2::phc::Output;
-use argon2::{Argon2, Params, PasswordHash, PasswordHasher};
+use argon2::{Argon2, MAX_SECRET_LEN, Params, PasswordHash, PasswordHasher};
 use rand_core::Rng;
 use std::alloc::Global;
 use std::fmt;
@@ -33,18 +35,18 @@ pub(crate) enum Age {
 pub struct Policy<'key> {
     alloc: Global,
     target: Argon2<'key>,
-    // The target under the old secret.
-    old: Option<Argon2<'key>>,
+    old: Option<&'key [u8]>,
     bound: Bound,
     ghost fits: { IsTarget (target_of target) } by { Prim.hlevel props },
     ghost within: { IsWithin bound (settings_of target).parameters } by { Prim.hlevel props },
+    ghost short: { ForSome old (λ secret. length secret.now ≤ max_len) },
 }
 
 impl<'key> Policy<'key> {
-    ghost use Rattle.std.specs.Prelude.{◌≡◌, ◌≢◌, ◌⊎◌, ◌↔◌, ◌≤◌, ◌<◌, Some, Ok, IsSome, IsTrue, IfSome, IfOk, IfErr, MatchResult, length, option_copied};
+    ghost use Rattle.std.specs.Prelude.{◌≡◌, ◌≢◌, ◌⊎◌, ◌↔◌, ◌≤◌, ◌<◌, [], Some, None, Ok, IsSome, IsTrue, IfSome, IfOk, IfErr, MatchOption, MatchResult, option_copied};
     ghost use Rattle.argon2_base.specs.declared.error.Error.TheVariants.{SecretTooLong};
-    ghost use Rattle.argon2_policy.specs.Policy.{AdmitsStored, AreNoWeaker, AsksWithin, IsChangeRefusal, Denies, IsHashingRefusal, IsAged, IsDenial, IsFound, IsFresh, IsHashedFor, IsNewPolicy, IsNoWeaker, LogsIn, Phc};
-    ghost use Rattle.argon2_policy.specs.Policy.{OutOfMemory, Refused, Rehashed, SaysValue, accepted_by, after_salt, drawn_salt, hashes_of_wrong, max_len, phc_of, policy_value, settings_value, shown_settings, stream_after, text_of, value_after};
+    ghost use Rattle.argon2_policy.specs.Policy.{AdmitsStored, AreNoWeaker, AsksFor, AsksWithin, HashesRefused, IsChangeRefusal, Denies, IsHashingRefusal, IsAged, IsDenial, IsFound, IsFresh, IsNewPolicy, IsNoWeaker, LogsIn, Phc};
+    ghost use Rattle.argon2_policy.specs.Policy.{OutOfMemory, Refused, Rehashed, SaysValue, accepted_by, after_salt, drawn_salt, hashes_of_wrong, phc_of, policy_value, settings_or_target, settings_value, shown_settings, stored_of, stream_after, text_of, value_after};
 
     /// A policy of a target and a bound, without an old secret. Its calls allocate from `alloc`; this one
     /// allocates nothing.
@@ -88,13 +90,13 @@ impl<'key> Policy<'key> {
             ≡ record (policy_value self.entry) { old_secret = Some secret.now }))
             (λ e. (e ≡ SecretTooLong) × (max_len < length secret.now)) }
     {
-        let target = &self.target;
-        let (algorithm, version) = (target.algorithm(), target.version());
-        let old = Argon2::new_with_secret(secret, algorithm, version, *target.params())?;
+        if secret.len() > MAX_SECRET_LEN {
+            return Err(argon2::Error::SecretTooLong);
+        }
         Ok(Policy {
             alloc: self.alloc,
             target: self.target,
-            old: Some(old),
+            old: Some(secret),
             bound: self.bound,
         })
     }
@@ -128,9 +130,9 @@ impl<'key> Policy<'key> {
     /// that is accepted a fresh one is made, as by [`hash_password`](Policy::hash_password). The caller stores it over
     /// the old one.
     ///
-    /// A password that is refused is hashed as often as a wrong one: once, and once more under an old secret. So a refusal
-    /// takes about as long if the name is unknown as with a text of the target's costs. No contract says so: time is not
-    /// proved. A text above the bound is refused without a hash.
+    /// A password that is refused is hashed once, and once more under an old secret: with the costs of the text if that can be
+    /// verified, and else with the target's. So a refusal takes about as long if the name is unknown as with a text of the
+    /// target's costs. No contract says so: time is not proved. A text above the bound is refused without a hash.
     ///
     /// Nothing is drawn but for a fresh text; then 16 bytes are, even if there is no memory for it.
     ///
@@ -184,7 +186,7 @@ impl<'key> Policy<'key> {
 
     /// A fresh text of a new password, which the caller stores over a text that accepts the old password
     /// as by [`log_in`](Policy::log_in). 16 bytes are drawn once the old password is accepted, and else
-    /// nothing is. An old password that is refused is hashed as often as by [`log_in`](Policy::log_in).
+    /// nothing is. An old password that is refused is hashed as by [`log_in`](Policy::log_in).
     ///
     /// # Errors
     /// The first of these that holds:
@@ -216,14 +218,15 @@ impl<'key> Policy<'key> {
         password: &[u8],
         hashes: &mut Hashes,
     ) -> Result<Age, Denial>
-        requires { hashes.old ≡ 0 }
+        requires { hashes.old ≡ [] }
         ensures found { IfOk result (λ age. (v : Phc) × SaysValue (option_copied stored.entry) v
             × AsksWithin (policy_value self.now).bound v × IsFound (policy_value self.now) password.now v age) }
         ensures denied { IfErr result
             (Denies (policy_value self.now) password.now (option_copied stored.entry)) }
         ensures refused { IfErr result (λ why. (why ≡ Refused OutOfMemory)
             ⊎ ¬ (AdmitsStored (policy_value self.now) password.now (option_copied stored.entry))) }
-        ensures hashed { IfErr result (λ why. IsHashedFor (policy_value self.now) why hashes.new) }
+        ensures hashed { IfErr result (λ why.
+            HashesRefused (policy_value self.now) password.now (option_copied stored.entry) why hashes.new) }
     {
         match read(stored) {
             Ok(hash) => self.verify(&hash, password, hashes),
@@ -241,12 +244,14 @@ impl<'key> Policy<'key> {
         password: &[u8],
         hashes: &mut Hashes,
     ) -> Result<Age, Denial>
-        requires { hashes.old ≡ 0 }
+        requires { hashes.old ≡ [] }
         ensures found { IfOk result (λ age. AsksWithin (policy_value self.now).bound (phc_of hash.now)
             × IsFound (policy_value self.now) password.now (phc_of hash.now) age) }
         ensures denied { IfErr result
             (IsDenial (policy_value self.now) password.now (phc_of hash.now)) }
-        ensures hashed { IfErr result (λ why. IsHashedFor (policy_value self.now) why hashes.new) }
+        ensures hashed { IfErr result (λ why. AsksFor (hashes_of_wrong (policy_value self.now)
+            (settings_or_target (policy_value self.now).target (stored_of (phc_of hash.now))) password.now)
+            why hashes.new) }
     {
         let text = match self.bound.admit_stored(hash) {
             Ok(text) => text,
@@ -262,23 +267,34 @@ impl<'key> Policy<'key> {
         if error != Error::PasswordInvalid {
             return Err(Denial::Refused(error));
         }
-        let Some(old) = &self.old else {
+        let Some(old) = self.old_target() else {
             return Err(Denial::Refused(error));
         };
-        hashes.verify(old, self.alloc, password, &text)?;
+        hashes.verify(&old, self.alloc, password, &text)?;
         Ok(Age::Outdated)
     }
 
-    // Hashes a password as often as a wrong one is hashed.
+    // Hashes a password as one that is wrong for a text of the target's settings.
     fn hash_for_nobody(&self, password: &[u8], hashes: &mut Hashes)
-        requires { hashes.old ≡ 0 }
-        ensures { hashes.new ≡ hashes_of_wrong (policy_value self.now) }
+        requires { hashes.old ≡ [] }
+        ensures { hashes.new ≡ hashes_of_wrong (policy_value self.now)
+            (policy_value self.now).target.settings password.now }
     {
-        let salt = [0; 16];
-        let _ = hashes.make(&self.target, self.alloc, password, &salt);
-        if let Some(old) = &self.old {
-            let _ = hashes.make(old, self.alloc, password, &salt);
+        hashes.make(&self.target, self.alloc, password);
+        if let Some(old) = self.old_target() {
+            hashes.make(&old, self.alloc, password);
         }
+    }
+
+    // The target under the old secret, if there is one.
+    fn old_target(&self) -> Option<Argon2<'key>>
+        ensures { MatchOption result ((policy_value self.now).old_secret ≡ None) (λ old.
+            ((policy_value self.now).old_secret ≡ Some (secret_of old))
+            × (settings_of old ≡ (policy_value self.now).target.settings)) }
+    {
+        let target = &self.target;
+        let (algorithm, version) = (target.algorithm(), target.version());
+        Argon2::new_with_secret(self.old?, algorithm, version, *target.params()).ok()
     }
 
     // Whether a text with these settings stays.

@@ -1,4 +1,4 @@
-use Rattle.std.proofs.Common.{◌≡◌, ℕ, Bool, false, List, Option, Bor, Some, refl, arith, inl, inr, option_copied}
+use Rattle.std.proofs.Common.{◌≡◌, ℕ, Bool, false, List, Option, Bor, arith, option_copied}
 use Rattle.std.specs.Option.{is_some}
 use Rattle.argon2_programs.specs.Locks.{behind_lock, is_locked}
 use Rattle.argon2_policy.proofs.PolicyLemmas.{err_is}

@@ -1,6 +1,6 @@
-use Rattle.std.proofs.Common.{arith, inr}
+use Rattle.std.proofs.Common.{inr}
 use Rattle.std.specs.Option.{option_copied}
-use Rattle.argon2_policy.proofs.PolicyLemmas.{hashed_as_wrong, not_admitted, policy_value, says_nothing}
+use Rattle.argon2_policy.proofs.PolicyLemmas.{not_admitted, policy_value, says_nothing}
 use Rattle.argon2_policy.proofs.policy.Policy.admit.Goals as goal
 
 pub returns-in-Ok-clause-refused : goal.returns-in-Ok-clause-refused
@@ -11,7 +11,3 @@ returns-in-Ok-clause-refused c =
 pub returns-in-Err-clause-refused : goal.returns-in-Err-clause-refused
 returns-in-Err-clause-refused c =
     inr (λ admits. says_nothing (option_copied c.args.stored) c.in-Err.why c.in-Err.ensures.shut admits.0 admits.1)
-
-pub returns-in-Err-clause-hashed : goal.returns-in-Err-clause-hashed
-returns-in-Err-clause-hashed c = hashed_as_wrong (policy_value c.args.self.now) _ c.hash_for_nobody.ensures
-    (option_copied c.args.stored) c.in-Err.why c.in-Err.ensures.shut

@@ -1,4 +1,4 @@
-use Rattle.std.proofs.Common.{inl, inr}
+use Rattle.std.proofs.Common.{inr}
 use Rattle.argon2_policy.proofs.PolicyLemmas.{admits_found, err_is, policy_value}
 use Rattle.argon2_policy.proofs.policy.Policy.change_password.Goals as goal
 

@@ -1,8 +1,8 @@
-use Rattle.std.proofs.Common.{◌∙◌, ◌≡◌, ap, arith, inl, inr, refl, subst}
+use Rattle.std.proofs.Common.{◌≡◌, arith, inl, inr, subst}
 use Rattle.std.specs.Prelude.{◌≢◌, Err}
 use Rattle.argon2.specs.Argon2.{secret_of}
 use Rattle.argon2.specs.StoredTexts.{stored_value}
-use Rattle.argon2_policy.proofs.PolicyLemmas.{IsVerifyAnswer, PasswordInvalid, denied_by_old, denied_by_target, err_is, found_by_old, found_by_target, hashed_once, memory_or_wrong, phc_of, policy_value, shows}
+use Rattle.argon2_policy.proofs.PolicyLemmas.{IsVerifyAnswer, PasswordInvalid, denied_by_old, denied_by_target, err_is, found_by_old, found_by_target, asked_once, phc_of, policy_value, shows}
 use Rattle.argon2_policy.proofs.policy.Policy.verify.Goals as goal
 
 pub returns-in_default-clause-found : goal.returns-in_default-clause-found
@@ -31,16 +31,16 @@ returns-then-ne-clause-hashed c =
     let v = phc_of c.args.hash.now in
     let shown = c.in-Ok.ensures.shown in
     let isnt : c.in-Err.error ≢ PasswordInvalid = λ is. grind arith in
-    hashed_once policy c.in-Err.error _ (memory_or_wrong policy c.args.password.now v (stored_value c.in-Ok.text) shown
-    policy.target.secret c.in-Err.error (c.in-Err.ensures.answer v shown)) isnt (grind arith)
+    asked_once policy c.args.password.now v (stored_value c.in-Ok.text) c.in-Err.error _ shown
+    (c.in-Err.ensures.answer v shown) isnt (grind arith)
 
-pub returns-in_default-old-clause-denied : goal.returns-in_default-old-clause-denied
-returns-in_default-old-clause-denied c =
+pub returns-in_default-old_target-clause-denied : goal.returns-in_default-old_target-clause-denied
+returns-in_default-old_target-clause-denied c =
     let policy = policy_value c.args.self.now in
     let v = phc_of c.args.hash.now in
     let shown = c.in-Ok.ensures.shown in
     denied_by_target policy c.args.password.now v (stored_value c.in-Ok.text) shown c.in-Err.error c.in-Ok.ensures.within
-    (inr (rw c.in_default-old.is refl)) (c.in-Err.ensures.answer v shown)
+    (inr (rw c.in_default-old_target.is at c.old_target.ensures)) (c.in-Err.ensures.answer v shown)
 
 pub returns-in_err-verify-clause-denied : goal.returns-in_err-verify-clause-denied
 returns-in_err-verify-clause-denied c =
@@ -53,7 +53,7 @@ returns-in_err-verify-clause-denied c =
     rw (err_is _ _ c.from_residual.ensures.1)
     (denied_by_old policy c.args.password.now v (stored_value c.in-Ok.text) shown
     (secret_of c.in-Some.old) c.in_err-verify.field-0.0
-    (rw c.in-Some.is refl) c.in-Ok.ensures.within first (c.in_err-verify.ensures.answer v shown))
+    (rw c.in-Some.is at c.old_target.ensures).0 c.in-Ok.ensures.within first (c.in_err-verify.ensures.answer v shown))
 
 pub returns-clause-found : goal.returns-clause-found
 returns-clause-found c =
@@ -65,5 +65,5 @@ returns-clause-found c =
     (c.in-Err.ensures.answer v shown) in (
       c.in-Ok.ensures.within,
       found_by_old policy c.args.password.now v (stored_value c.in-Ok.text) shown (secret_of c.in-Some.old)
-          (rw c.in-Some.is refl) first (c.in_ok-verify.ensures.answer v shown),
+          (rw c.in-Some.is at c.old_target.ensures).0 first (c.in_ok-verify.ensures.answer v shown),
     )
