@@ -1,4 +1,4 @@
-//! The answer of a call, word by word.
+//! The answer of a call, word by word, and how many answers are as their lines have them.
 
 use crate::call::Call;
 use crate::drawn::Drawn;
@@ -14,6 +14,8 @@ pub struct Answer {
     pub alloc: Global,
     text: Cell<String>,
     is_refused: Cell<bool>,
+    right: Cell<u32>,
+    wrong: Cell<u32>,
 }
 
 impl Answer {
@@ -23,25 +25,44 @@ impl Answer {
             alloc,
             text: Cell::new(String::new(alloc)),
             is_refused: Cell::new(false),
+            right: Cell::new(0),
+            wrong: Cell::new(0),
         }
     }
 
-    /// Writes the line of a call, with the answer if it is one, and begins anew.
+    /// Writes a call with its answer, unless its line has the same answer, and begins anew.
     ///
     /// # Errors
     /// The first failure of the writer.
     pub fn write<W: Write>(&self, call: &Call<'_, '_>, output: &mut W) -> io::Result<()> {
         let (text, answer) = (call.text(), self.text.replace(String::new(self.alloc)));
-        let is_refused = self.is_refused.replace(false);
-        if text.is_empty() || text.starts_with('#') {
-            writeln!(output, "{text}")
-        } else if is_refused {
-            writeln!(output, "{text} = no memory")
+        let answer = if self.is_refused.replace(false) {
+            "no memory"
         } else if call.is_unread() {
-            writeln!(output, "{text} = ?")
+            "?"
         } else {
-            writeln!(output, "{text} ={answer}")
+            answer.as_str().trim_start()
+        };
+        if call.wanted() == Some(answer) {
+            self.right.set(self.right.get().saturating_add(1));
+            return Ok(());
         }
+        if call.wanted().is_some() {
+            self.wrong.set(self.wrong.get().saturating_add(1));
+        }
+        writeln!(output, "{text} = {answer}")
+    }
+
+    /// Writes how many answers are as their lines have them, and how many are not, unless no line has one.
+    ///
+    /// # Errors
+    /// The first failure of the writer.
+    pub fn write_counts<W: Write>(&self, output: &mut W) -> io::Result<()> {
+        let (right, wrong) = (self.right.get(), self.wrong.get());
+        if right == 0 && wrong == 0 {
+            return Ok(());
+        }
+        writeln!(output, "{right} right, {wrong} wrong")
     }
 
     /// Remembers that memory was refused for a value or for the answer.

@@ -38,9 +38,14 @@ impl<'c, 'a> Call<'c, 'a> {
         }
     }
 
-    /// What is written.
+    /// The call as it is written.
     pub(crate) fn text(&self) -> &'a str {
-        self.line.text
+        self.line.call
+    }
+
+    /// The answer that it must have, if that is written.
+    pub(crate) fn wanted(&self) -> Option<&'a str> {
+        self.line.answer
     }
 
     /// Whether the line is no call, or has other values.

@@ -1,4 +1,4 @@
-//! The words of a line, and the bytes that they say.
+//! A call as a line writes it: its words, the bytes that they say, and the answer that it must have.
 //!
 //! `COUNT*HEX` are bytes in hex so many times, and several of these, joined by `+`, are those one after another. Any other word
 //! says the bytes of its text.
@@ -7,12 +7,14 @@ use argon2::phc::read_decimal;
 use hex::FromHexError;
 use std::alloc::{AllocError, Global};
 
-/// A line of a text, and the bytes of the words that are in hex.
+/// A call, its answer if the line has one, and the bytes of the words that are in hex.
 #[derive(Drop)]
 pub struct Line<'a> {
-    /// What is written.
-    pub text: &'a str,
-    // An entry for each word.
+    /// The call as it is written.
+    pub call: &'a str,
+    /// What stands after ` = `.
+    pub answer: Option<&'a str>,
+    // An entry for each word of the call.
     bytes: Vec<Option<Vec<u8>>>,
 }
 
@@ -24,7 +26,7 @@ impl<'a> Line<'a> {
 
     /// The word at a place, if there is one.
     pub fn word(&self, place: usize) -> Option<&'a str> {
-        self.text.split(' ').nth(place)
+        self.call.split(' ').nth(place)
     }
 
     /// The bytes of the word at a place, if it is in hex. That may stand behind a name, as in `NAME=COUNT*HEX`.
@@ -36,22 +38,36 @@ impl<'a> Line<'a> {
     }
 }
 
-/// All lines of a text.
+/// The lines of a text that have a call: those that are empty or begin with `#` have none.
 ///
 /// # Errors
 /// `AllocError`, if memory is refused.
 pub fn lines_of(alloc: Global, text: &str) -> Result<Vec<Line<'_>>, AllocError> {
     let mut lines = Vec::new(alloc);
     for text in text.lines() {
-        let bytes = bytes_of(alloc, text)?;
-        lines.push(Line { text, bytes })?;
+        if !text.is_empty() && !text.starts_with('#') {
+            lines.push(read_line(alloc, text)?)?;
+        }
     }
     Ok(lines)
 }
 
-fn bytes_of(alloc: Global, line: &str) -> Result<Vec<Option<Vec<u8>>>, AllocError> {
+fn read_line(alloc: Global, text: &str) -> Result<Line<'_>, AllocError> {
+    let (call, answer) = match text.split_once(" = ") {
+        Some((call, answer)) => (call, Some(answer)),
+        None => (text, None),
+    };
+    let bytes = bytes_of(alloc, call)?;
+    Ok(Line {
+        call,
+        answer,
+        bytes,
+    })
+}
+
+fn bytes_of(alloc: Global, call: &str) -> Result<Vec<Option<Vec<u8>>>, AllocError> {
     let mut all = Vec::new(alloc);
-    for word in line.split(' ') {
+    for word in call.split(' ') {
         all.push(decode(alloc, split_word(word).1)?)?;
     }
     Ok(all)

@@ -1,9 +1,11 @@
-//! Makes the calls that the lines of standard input name, and prints each line with its answer. So a test is a line: `stdin`
-//! has the calls, and `stdout` the same lines with the answers that they must have.
+//! Makes the calls that the lines of standard input name, and compares the answers with those that the lines have. So a test is
+//! a line of `stdin`: `CALL = ANSWER`.
 //!
-//! - Empty lines and lines that begin with `#` are printed as they are.
-//! - Any other line is a call: its name and its values, each after one space. It is printed with ` = ` and the answer: a
-//!   value, `Ok`, or an error by its name. The module that makes a call says which values it takes.
+//! - Empty lines and lines that begin with `#` have no call.
+//! - A call is its name and its values, each after one space. Its answer is a value, `Ok`, or an error by its name. The module
+//!   that makes a call says which values it takes.
+//! - A call is printed with the answer that was found if the line has another answer or none. Last come the numbers of right and
+//!   of wrong answers, unless no line has an answer.
 //! - A line that is no call, or has other values, is answered by `?`. If memory is refused to the program, and not to the
 //!   call, the answer is `no memory`, or the program ends.
 #![tactic(auto)]
@@ -68,6 +70,7 @@ fn write_all<'a, S: Disks, W: Write>(
         }
         answer.write(&call, output)?;
     }
+    answer.write_counts(output)?;
     output.flush()
 }
 
