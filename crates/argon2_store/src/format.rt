@@ -16,7 +16,7 @@ use std::alloc::Global;
 const FORMAT: u32 = 0;
 
 // The first bytes of each SQLite database.
-const NAME: [u8; 16] = *b"SQLite format 3\0";
+pub(crate) const NAME: [u8; 16] = *b"SQLite format 3\0";
 
 // The bytes of a database's header up to the end of its `user_version`.
 const VERSIONED: usize = 64;

@@ -6,10 +6,12 @@ ghost use Rattle.sqlite_store.specs.Unopened.{AreUsable, HasFile, Opens, image, 
 ghost use Rattle.sqlite_disk.specs.Disk.{CountsFault};
 ghost use Rattle.sqlite_std_file.specs.File.{IsFresh, file_is_usable};
 ghost use Rattle.argon2_store.specs.Errors.{IsOfDatabase};
+ghost use Rattle.argon2_store.specs.Making.{IsUnmade, first_page};
 ghost use Rattle.argon2_store.specs.Opening.{AreSound, AreSynced, AreUnharmed, IsFoundIn, IsDamaged, Recovers, seen_image, IsSigned, AreClean, OnlyReads};
 ghost use Rattle.argon2_rows.specs.Table.{IsClean, IsUnwritten};
 
 use crate::error::OpenError;
+use crate::format::NAME;
 use sqlite_disk::{Disk, Files};
 use sqlite_pager::{Options, PageSize, Pager};
 use sqlite_pool::probe_blank;
@@ -185,23 +187,32 @@ fn system_error(error: io::Error) -> OpenError {
 }
 
 // The first page of a database without tables.
-fn first_page() -> [u8; PAGE] {
+fn first_page() -> [u8; PAGE]
+    ensures { result ≡ first_page }
+{
     let mut page = [0; PAGE];
     page[..FIRST.len()].copy_from_slice(&FIRST);
     page
 }
 
-// Whether a database is still to be made in a file: it has a front of the first page, or zeros alone, as a making leaves that a
-// kill or the loss of power cut off.
-fn is_unmade(file: &File) -> io::Result<bool> {
+// Whether a database is still to be made in a file that holds these bytes: they are zeros, at most a page of them, or a proper
+// prefix of the first page. A making leaves these if a kill or the loss of power cuts it off.
+fn is_unmade(held: &[u8]) -> bool
+    ensures { IsTrue result ↔ IsUnmade held.now }
+{
+    let is_blank = held.len() <= PAGE && held.iter().all(|&byte| byte == 0);
+    is_blank || held.len() < PAGE && first_page().starts_with(held)
+}
+
+// The bytes of a file, in memory for a page, or `None` if the file has more.
+fn small_bytes<'page>(file: &File, page: &'page mut [u8; PAGE]) -> io::Result<Option<&'page [u8]>> {
     let len = file.metadata()?.len();
     if len > PAGE as u64 {
-        return Ok(false);
+        return Ok(None);
     }
-    let len = len as usize;
-    let mut found = [0; PAGE];
-    file.read_exact_at(&mut found[..len], 0)?;
-    Ok(found == [0; PAGE] || len < PAGE && found[..len] == first_page()[..len])
+    let held = &mut page[..len as usize];
+    file.read_exact_at(held, 0)?;
+    Ok(Some(held))
 }
 
 // Makes a file for its owner alone, or opens a small one. `None` is anything else that has the name.
@@ -246,8 +257,10 @@ fn check_alone(rt: &HostRuntime, path: &str) -> Result<(), OpenError> {
 }
 
 // Writes a database with no table into a file, for its owner alone. It has one page, which is written whole before there is a
-// log, so that sqlite3 opens what a kill leaves. A failure to write it leaves the file empty.
-fn write_first_page(file: &mut File) -> io::Result<()> {
+// log, so that sqlite3 opens what a kill leaves. A failure to write it leaves the file empty. `_held` is what the file held.
+fn write_first_page(file: &mut File, _held: &[u8]) -> io::Result<()>
+    requires { IsUnmade _held.now }
+{
     file.set_permissions(Permissions::from_mode(0o600))?;
     let done = file.write_all(&first_page());
     if done.is_err() {
@@ -268,7 +281,8 @@ fn make(rt: &HostRuntime, path: &str) -> Result<(), OpenError> {
         Ok(None) => return Ok(()),
         Err(error) => return Err(system_error(error)),
     };
-    if !is_unmade(&file)? {
+    let mut page = [0; PAGE];
+    if !small_bytes(&file, &mut page)?.is_some_and(is_unmade) {
         return Ok(());
     }
     // Of the processes that open the file by this call one writes the page. SQLite takes another lock, for which std has no call.
@@ -278,11 +292,14 @@ fn make(rt: &HostRuntime, path: &str) -> Result<(), OpenError> {
         Err(TryLockError::Error(error)) => return Err(system_error(error)),
     }
     // Before the lock another process may have written or replaced the file.
-    if !is_unmade(&file)? || !is_at(rt, &file, path)? {
+    let Some(held) = small_bytes(&file, &mut page)? else {
+        return Ok(());
+    };
+    if !is_unmade(held) || !is_at(rt, &file, path)? {
         return Ok(());
     }
     check_alone(rt, path)?;
-    write_first_page(&mut file).map_err(system_error)
+    write_first_page(&mut file, held).map_err(system_error)
 }
 
 // The regular file at a path.
@@ -291,6 +308,23 @@ fn open_regular(rt: &HostRuntime, path: &str) -> io::Result<File> {
         return Err(ErrorKind::Unsupported.into());
     }
     File::open(rt, path)
+}
+
+// Refuses a file that does not begin as a database, unless its log may have the first page. The kit would make a database of each
+// file of one byte.
+fn check_begun(rt: &HostRuntime, file: &File, path: &str) -> Result<(), OpenError> {
+    let mut head = [0; NAME.len()];
+    match file.read_exact_at(&mut head, 0) {
+        Ok(()) if head == NAME => return Ok(()),
+        Err(error) if error.kind() != ErrorKind::UnexpectedEof => return Err(system_error(error)),
+        _ => {}
+    }
+    let log = format!(in rt.alloc(); "{path}-wal")?;
+    match fs::metadata(rt, log.as_str()) {
+        Ok(found) if found.len() >= HEADERS as u64 => Ok(()),
+        Err(error) if error.kind() != ErrorKind::NotFound => Err(system_error(error)),
+        _ => Err(OpenError::NotAccounts),
+    }
 }
 
 // Makes what the kit's open left of a file that was removed meanwhile its owner's alone, and removes the empty log. The kit still
@@ -346,6 +380,7 @@ pub(crate) fn open_path<T: Start>(
     let path = path.as_str();
     make(rt, path)?;
     let held = open_regular(rt, path)?;
+    check_begun(rt, &held, path)?;
     let files = sqlite_std_file::open(rt, path, start)?;
     // If the file was removed meanwhile, the kit's open has made one that all may read.
     if !is_at(rt, &held, path)? {
