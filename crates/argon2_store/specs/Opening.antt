@@ -1,6 +1,6 @@
 -- What opening a file finds.
-use Rattle.std.specs.Prelude.{◌≡◌, ◌≢◌, ◌⊎◌, ◌≤◌, ⊤, ℕ, List, [], ◌∷◌, ◌++◌, codes, length, slice_index, take, IsTrue}
-pub use Rattle.sqlite_value.specs.Order.{Row}
+use Rattle.std.specs.Prelude.{◌≡◌, ◌≢◌, ◌⊎◌, ◌≤◌, ⊤, ℕ, List, [], ◌∷◌, ◌++◌, All, codes, length, slice_index, take, IsTrue}
+pub use Rattle.sqlite_value.specs.Order.{Row, column}
 use Rattle.sqlite_disk.specs.declared.Disk.{Ghosts}
 use Rattle.sqlite_disk.specs.Disk.{MoreFaults, Only}
 pub use Rattle.sqlite_pages.specs.PageMap.{PageMap}
@@ -30,6 +30,15 @@ IsUnstarted size image = IsBlankFile size image
 -- The database lists one thing: no second table, no view, no index and no trigger.
 abbrev pub ListsOne : ℕ → PageMap → Type 0
 ListsOne size pages = length (rows_at size (in_use size pages) Table 1) ≡ 1
+
+-- a row of sqlite_schema is that of the table, whatever its first page is: after the rowid come the type, the name, the table,
+-- that page and the SQL text
+abbrev pub IsTableRow : Row → Type 0
+IsTableRow row = column row 1 ∷ column row 2 ∷ column row 3 ∷ column row 5 ∷ [] ≡ account.row
+
+-- a database with these rows in sqlite_schema may be one of accounts: it lists only their table, or nothing yet
+abbrev pub MayHoldAccounts : List Row → Type 0
+MayHoldAccounts rows = (length rows ≤ 1) × All IsTableRow rows
 
 -- the files recover to a database of that table alone, which has these rows, or there was no table and these are none
 abbrev pub IsFoundIn : ℕ → Image → List Row → Type 0

@@ -9,7 +9,7 @@ ghost use Rattle.argon2_store.specs.Errors.{is_refusal, read_by};
 use crate::edit::{Edit, RowEdit, row_edit};
 use crate::error::{FileError, LineError, OpenError, call_error, line_result, read_result};
 use crate::format::check_headers;
-use crate::opening::{open_files, open_path};
+use crate::opening::{log_len, open_files, open_path, restore_log};
 use argon2_base::phc::PasswordHash;
 use argon2_rows::rows::{are_rows_sound, look_up, write_rows};
 use argon2_rows::table::{AddError, finish, insert, remove, replace, undo_failed};
@@ -265,8 +265,10 @@ impl<T: Start> AccountsAt<T> {
     /// it is opened, that is an error. A new file, one that was empty, and one whose making was cut off is a database with
     /// no table before its log is begun, so that `sqlite3` opens it after a kill. No clause says so.
     ///
-    /// An open that fails leaves the accounts in the file as they were: see [`failed_open`](crate::failed_open). It removes
-    /// no file. No clause says which error it answers; that of [`open_from`](AccountFile::open_from) does, on two files.
+    /// An open that fails leaves the accounts in the file as they were: see [`failed_open`](crate::failed_open). A file that
+    /// holds something else, or another format, keeps each byte, and the log that it had; a log that the open has made is
+    /// removed. No clause says so, nor which error it answers; that of [`open_from`](AccountFile::open_from) does, on two
+    /// files.
     ///
     /// # Errors
     /// - [`OpenError::Path`]: the system refuses to open or to make the file.
@@ -281,10 +283,15 @@ impl<T: Start> AccountsAt<T> {
     pub fn open(rt: &HostRuntime, path: &str, start: T) -> Result<AccountsAt<T>, OpenError>
         ensures { IfOk result (IsFileFrom (image_at T.Start)) }
     {
+        let log = log_len(rt, path)?;
         let (files, seed) = open_path(rt, path, start)?;
         match AccountFile::open_from(rt.alloc(), files, seed) {
             Ok(file) => Ok(file),
-            Err((error, _)) => Err(error),
+            Err((error, _files)) => {
+                // (that it is refused matters more)
+                let _ = restore_log(rt, path, log, &error);
+                Err(error)
+            }
         }
     }
 }
@@ -303,10 +310,15 @@ impl<T: Start> AccountsAt<T> {
         requires { AreHeld (image_at T.Start) }
         ensures { IfOk result (IsFileFrom (image_at T.Start)) }
     {
+        let log = log_len(rt, path)?;
         let (files, seed) = open_path(rt, path, start)?;
         match AccountFile::open_sound_from(rt.alloc(), files, seed) {
             Ok(file) => Ok(file),
-            Err((error, _)) => Err(error),
+            Err((error, _files)) => {
+                // (that it is refused matters more)
+                let _ = restore_log(rt, path, log, &error);
+                Err(error)
+            }
         }
     }
 }

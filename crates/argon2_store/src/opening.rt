@@ -7,8 +7,10 @@ ghost use Rattle.sqlite_disk.specs.Disk.{CountsFault};
 ghost use Rattle.sqlite_std_file.specs.File.{IsFresh, file_is_usable};
 ghost use Rattle.argon2_store.specs.Errors.{IsOfDatabase};
 ghost use Rattle.argon2_store.specs.Making.{IsUnmade, first_page};
-ghost use Rattle.argon2_store.specs.Opening.{AreSound, AreSynced, AreUnharmed, IsFoundIn, IsDamaged, Recovers, seen_image, IsSigned, AreClean, OnlyReads};
+ghost use Rattle.argon2_store.specs.Opening.{AreSound, AreSynced, AreUnharmed, IsFoundIn, IsDamaged, IsTableRow, MayHoldAccounts, Recovers, seen_image, IsSigned, AreClean, OnlyReads};
 ghost use Rattle.argon2_rows.specs.Table.{IsClean, IsUnwritten};
+ghost use Rattle.sqlite_value.specs.Value.{owned};
+ghost use Rattle.sqlite_value.specs.declared.value.Value.TheVariants.{Text};
 
 use crate::error::OpenError;
 use crate::format::NAME;
@@ -20,6 +22,9 @@ use sqlite_store::{FileStore, OpenError as UnopenedError, Unopened};
 use sqlite_trees::schema::Object;
 use sqlite_trees::store::Shape;
 use sqlite_value::keys::Order;
+use sqlite_value::order::is_same;
+use sqlite_value::row::Row;
+use sqlite_value::value::ValueRef;
 use sqlite_wal::checksum_of;
 use std::alloc::{AllocFailed, Global};
 use std::fs::{self, File, OpenOptions, Permissions, TryLockError};
@@ -40,7 +45,7 @@ const ACCOUNT: Object<'static> = Object {
     sql: Some(SQL),
 };
 
-// The things that a database of accounts lists: its table alone.
+// The things that a database of accounts lists: only its table.
 const LISTED: usize = 1;
 
 // The bytes of a page.
@@ -63,6 +68,31 @@ const FIRST: [u8; 106] = [
 
 // The first byte of a log's magic number.
 const MAGIC: u8 = 0x37;
+
+// Whether a value is this text.
+fn is_text(value: ValueRef<'_>, text: &str) -> bool
+    ensures { IsTrue result ↔ (owned value.entry ≡ Text text.now) }
+{
+    is_same(value, ValueRef::Text(text.as_bytes()))
+}
+
+// Whether a row of `sqlite_schema` is that of the table: its columns after the rowid are the type, the name, the table, the first
+// page, which may be any, and the SQL text.
+fn is_table_row(row: &Row) -> bool
+    ensures { IsTrue result ↔ IsTableRow row.now }
+{
+    is_text(row.get(1), ACCOUNT.kind)
+        && is_text(row.get(2), ACCOUNT.name)
+        && is_text(row.get(3), ACCOUNT.table)
+        && is_text(row.get(5), SQL)
+}
+
+// Whether a database with these rows in `sqlite_schema` may be one of accounts: it lists only their table, or nothing yet.
+fn may_hold_accounts(rows: &[Row]) -> bool
+    ensures { IsTrue result ↔ MayHoldAccounts rows.now }
+{
+    rows.len() <= LISTED && rows.iter().all(is_table_row)
+}
 
 // Opens a database that is there. It is checked whole before, unless it is known to be sound.
 fn open_there<D: Disk>(
@@ -89,8 +119,8 @@ fn open_there<D: Disk>(
 }
 
 // Opens two files, or makes the table in them if they have a database without tables, such as a first open that was cut off
-// leaves. One that lists more than one thing is refused. An error comes with the files. Files that are known to be sound are not
-// checked.
+// leaves. One that lists anything else is refused before more of it is read. Files that are known to be sound are not checked
+// further. An error comes with the files.
 pub(crate) fn open_files<D: Disk + Drop>(
     alloc: Global,
     mut files: Files<D>,
@@ -132,7 +162,7 @@ pub(crate) fn open_files<D: Disk + Drop>(
             Ok(rows) => rows,
             Err(error) => return Err((error.into(), unopened.close())),
         };
-        if rows.len() > LISTED {
+        if !may_hold_accounts(rows.as_slice()) {
             return Err((OpenError::NotAccounts, unopened.close()));
         }
         if rows.len() == LISTED {
@@ -363,6 +393,44 @@ fn resolve(rt: &HostRuntime, path: &str) -> Result<String, OpenError> {
         )?),
         Err(error) => Err(system_error(error)),
     }
+}
+
+// The bytes of the log beside the file at a path, or `None` if there is none.
+pub(crate) fn log_len(rt: &HostRuntime, path: &str) -> Result<Option<u64>, OpenError> {
+    let path = resolve(rt, path)?;
+    let log = format!(in rt.alloc(); "{path}-wal")?;
+    match fs::symlink_metadata(rt, log.as_str()) {
+        Ok(found) => Ok(Some(found.len())),
+        Err(error) if error.kind() == ErrorKind::NotFound => Ok(None),
+        Err(error) => Err(system_error(error)),
+    }
+}
+
+// Gives the log of a file that an open has refused for what it holds the length that it had before, or removes the log if there
+// was none. What the open has written lies behind that length. The files are still locked.
+pub(crate) fn restore_log(
+    rt: &HostRuntime,
+    path: &str,
+    len: Option<u64>,
+    error: &OpenError,
+) -> Result<(), OpenError> {
+    if !matches!(
+        error,
+        OpenError::NotAccounts | OpenError::Row | OpenError::Format(_)
+    ) {
+        return Ok(());
+    }
+    let path = resolve(rt, path)?;
+    let log = format!(in rt.alloc(); "{path}-wal")?;
+    let Some(len) = len else {
+        fs::remove_file(rt, log.as_str())?;
+        return Ok(());
+    };
+    let log = OpenOptions::new().write(true).open(rt, log.as_str())?;
+    if log.metadata()?.len() > len {
+        log.set_len(len)?;
+    }
+    Ok(())
 }
 
 // Opens the files at a path, or makes them, and draws a seed.

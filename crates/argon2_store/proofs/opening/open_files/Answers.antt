@@ -3,7 +3,7 @@ use Rattle.argon2_store.proofs.Imports.{schema_of, state, view, kept_schema, sta
 use Rattle.sqlite_store.specs.Unopened as below
 use Rattle.argon2_store.proofs.OpenLemmas.{after, as_before, bare, fresh, has_file, image_is, made, probed, there, unharmed, was_clean}
 use Rattle.argon2_store.proofs.opening.open_files.Goals as goal
-use Rattle.argon2_store.proofs.opening.open_files.Goals.{After-create, then-not-is_new+in-Ok-read_catalog+else-len-gt-LISTED+else-len-eq-LISTED, else-not-is_new}
+use Rattle.argon2_store.proofs.opening.open_files.Goals.{After-create, then-not-is_new+in-Ok-read_catalog+else-not-may_hold_accounts+else-len-eq-LISTED, else-not-is_new}
 
 -- the files list nothing, or there is no database yet
 looked : (g : _) (c : After-create g) → let it = c.in-Ok-new-2.unopened in (wanted_by c.if-not-is_new.unopened ≡ account ∷ [])
@@ -12,7 +12,7 @@ looked : (g : _) (c : After-create g) → let it = c.in-Ok-new-2.unopened in (wa
     × ∥ IsUnstarted (state_of it).page_size (image it) ∥₁
     × ((left : Image) → below.IsAsBefore c.if-not-is_new.unopened left → below.IsAsBefore it left))
 looked g c = elim c.if-not-is_new.branch [
-  | then-not-is_new+in-Ok-read_catalog+else-len-gt-LISTED+else-len-eq-LISTED w ↦ rw (w.unopened-is) (
+  | then-not-is_new+in-Ok-read_catalog+else-not-may_hold_accounts+else-len-eq-LISTED w ↦ rw (w.unopened-is) (
     w.read_catalog.ensures.schema ∙ search rules,
     λ clean.
         let kept = w.read_catalog.ensures.kept clean in
@@ -56,11 +56,11 @@ returns-in-Err-read_catalog-clause-left g c =
     c.close-in-Err-read_catalog.ensures (λ sized clean.
     (search arith, λ left may. as_before c.in-Ok-new-2.unopened sized left ((c.read_catalog.ensures.kept clean).crash left may)))
 
-pub returns-then-len-gt-LISTED-clause-left : goal.returns-then-len-gt-LISTED-clause-left
-returns-then-len-gt-LISTED-clause-left g c =
+pub returns-then-not-may_hold_accounts-clause-left : goal.returns-then-not-may_hold_accounts-clause-left
+returns-then-not-may_hold_accounts-clause-left g c =
     unharmed c.probe_blank.ensures.log c.probe_blank.ensures.db c.in-Ok-new-2.unopened (search rules)
     (search rules) c.read_catalog.new.self _
-    c.close-then-len-gt-LISTED.ensures (λ sized clean.
+    c.close-then-not-may_hold_accounts.ensures (λ sized clean.
     (search arith, λ left may. as_before c.in-Ok-new-2.unopened sized left ((c.read_catalog.ensures.kept clean).crash left may)))
 
 pub returns-in-Err-open_there-clause-left : goal.returns-in-Err-open_there-clause-left
