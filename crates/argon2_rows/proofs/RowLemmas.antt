@@ -3,7 +3,7 @@ use Rattle.argon2_rows.proofs.Imports.{AllByRecursion, eq_by_cmp, IfSome, IsUtf8
 use Rattle.argon2_rows.proofs.Imports.{bytes_eq-Decides, nat_list_cmp_total, get, get-insert, get-remove, insert, remove, same_entries_map, same_map, slice_cmp-IsAntisymmetric, Text}
 use Rattle.argon2_rows.proofs.Imports.{nat_cmp-IsAntisymmetric, bytes_eq, Texts, arith, [], ◌∷◌, map, T, not, Ordering, tied_itself, slice_cmp, get-entries, entries, entries-insert}
 use Rattle.argon2_rows.proofs.Imports.{entries_sorted, find, put, is_sorted, nat_cmp, ordering_then, plain, entry_cmp, Row, column, row_cmp, insert_entry, remove_entry, IsStorable}
-use Rattle.argon2_rows.proofs.Imports.{row_of, rows_of, IsLong, prefix_cmp, Index, Forward, from_key, order_of, sought, View, Advances, with_cursor, IsAfterAll, IsFoundAs, Later, Name}
+use Rattle.argon2_rows.proofs.Imports.{row_of, rows_of, IsHuge, IsLong, prefix_cmp, Index, Forward, from_key, order_of, sought, View, Advances, with_cursor, IsAfterAll, IsFoundAs, Later, Name}
 use Rattle.argon2_rows.proofs.Imports.{IsIndex, IsAccount, AreLines, ◌↔◌, entries-from_sorted, from_sorted, get-from_sorted, is_gt, alike_right, ⊤, doubt, unwrap_or}
 use Rattle.std.specs.FinMap.Entries.{below_all}
 use Rattle.sqlite_value.proofs.OrderLemmas.{value_cmp-Text}
@@ -99,10 +99,13 @@ remove_entry-rows_of names name u has =
 
 -- ---- long rows
 
--- a row that may not be stored is long
-pub is_long : (reals : ℕ) (row : Row) (e : List ℕ × List ℕ) → row ≡ row_of e → ¬ (IsStorable reals row) → IsLong e
+-- a row that may not be stored is huge
+pub is_huge : (reals : ℕ) (row : Row) (e : List ℕ × List ℕ) → row ≡ row_of e → ¬ (IsStorable reals row) → IsHuge e
 unfolding Ieee.is_nan
-is_long reals row e is not = grind arith
+is_huge reals row e is not = grind arith
+
+pub long_if_huge : (e : List ℕ × List ℕ) → IsHuge e → IsLong e
+long_if_huge e huge = grind arith
 
 -- ---- a seek by a name finds its row, or the name has none
 

@@ -1,5 +1,5 @@
 -- What a table of names shows, and what a change of it leaves in the store.
-use Rattle.std.specs.Prelude.{◌≡◌, ◌⊎◌, ℕ, ◌<◌, List, [], ◌∷◌, length, codes, false, Result, Ok, Err, IsTrue, IfErr, IsOkAnd, OnErr, OnOk, MatchResult, ◌≤◌, Any}
+use Rattle.std.specs.Prelude.{◌≡◌, ◌⊎◌, ℕ, ◌+◌, ◌^◌, ◌<◌, List, [], ◌∷◌, length, codes, false, Result, Ok, Err, IsTrue, IfErr, IsOkAnd, OnErr, OnOk, MatchResult, ◌≤◌, Any}
 pub use Rattle.sqlite_disk.specs.Disk.{MoreFaults}
 pub use Rattle.sqlite_value.specs.Keys.{plain}
 pub use Rattle.sqlite_trees.specs.declared.error.StoreError.{StoreError}
@@ -38,6 +38,10 @@ Sees v names = v.is_broken ≡ false → HoldsTable v.trees names
 -- the name or its text has more bytes than a new one may have
 abbrev pub IsLong : List ℕ × List ℕ → Type 0
 IsLong e = (4096 < length e.0) ⊎ (4096 < length e.1)
+
+-- the row of the name with its text is longer than any row may be
+abbrev pub IsHuge : List ℕ × List ℕ → Type 0
+IsHuge e = 10 ^ 9 < 36 + (length e.0 + length e.1)
 
 -- nothing is written yet
 pub record IsUnwritten (v : View) : Type 0 where

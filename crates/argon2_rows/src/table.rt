@@ -5,7 +5,7 @@ ghost use Rattle.std.specs.Prelude.{◌≡◌, Any, Err, None, Some, IfErr, IsUt
 ghost use Rattle.sqlite_trees.specs.View.{KeepsSchema};
 ghost use Rattle.argon2_rows.specs.Names.{AddsEach, Store, Texts, add_error_text, changed, entry_of, get};
 ghost use Rattle.argon2_rows.specs.Rows.{AreTexts};
-ghost use Rattle.argon2_rows.specs.Table.{EndsRead, Finishes, HasBegun, IsHonest, IsKept, IsLong, Sees, StaysQuiet, Writes, written_of, plain, Index};
+ghost use Rattle.argon2_rows.specs.Table.{EndsRead, Finishes, HasBegun, IsHonest, IsHuge, IsKept, IsLong, Sees, StaysQuiet, Writes, written_of, plain, Index};
 
 use crate::rows::{ACCOUNTS, Found, fill_row, find};
 use crate::text::StoredText;
@@ -47,7 +47,21 @@ impl From<StoreError> for AddError {
 /// The most bytes of a new name, and of its text.
 pub const LONGEST: usize = 4096;
 
-/// Writes the row of a name that has none. `row` is memory for a row.
+// Writes the row of a name that has none, however long it is.
+fn put<S: Store>(store: &mut S, row: &mut Row, name: &str, text: &str) -> Result<(), StoreError>
+    requires { IsHonest S.Store store.old → (S.Store.view store.old).shape 0 ≡ Index plain }
+    ensures schema { KeepsSchema (S.Store.view store.old) (S.Store.view store.new) }
+    ensures quiet { StaysQuiet S.Store store.old store.new }
+    ensures writes { (names : Texts) → (IsHonest S.Store store.old → get names name.now ≡ None) →
+        Writes S.Store store.old store.new names (changed names name.now (Some text.now))
+        (IsHuge (name.now, text.now)) result }
+    ensures text { IsUtf8 text.now }
+{
+    fill_row(row, name, text)?;
+    store.insert(ACCOUNTS, row)
+}
+
+/// Writes the row of a new name. `row` is memory for a row.
 ///
 /// # Errors
 /// [`StoreError::Unstorable`] if the name or the text has more than [`LONGEST`] bytes; those of the store, and out of memory.
@@ -69,17 +83,18 @@ pub fn insert<S: Store>(
     if name.len() > LONGEST || text.len() > LONGEST {
         return Err(StoreError::Unstorable);
     }
-    fill_row(row, name, text)?;
-    store.insert(ACCOUNTS, row)
+    put(store, row, name, text)
 }
 
-/// Removes the row of a name that has this text. `row` is memory for a row.
+/// Removes the row of a name that has this text. `row` and `key` are memory for rows.
 ///
 /// # Errors
-/// Those of the store, and out of memory.
+/// - [`StoreError::Corrupt`]: the name still has a row, since the rows are out of order, or it had two.
+/// - those of the store, and out of memory.
 pub fn remove<S: Store>(
     store: &mut S,
     row: &mut Row,
+    key: &mut Row,
     name: &str,
     text: &str,
 ) -> Result<(), StoreError>
@@ -87,33 +102,38 @@ pub fn remove<S: Store>(
     ensures schema { KeepsSchema (S.Store.view store.old) (S.Store.view store.new) }
     ensures quiet { StaysQuiet S.Store store.old store.new }
     ensures writes { (names : Texts) →
-        (IsHonest S.Store store.old → get names name.now ≡ Some text.now) →
+        (IsHonest S.Store store.old → Sees (S.Store.view store.old) names × (get names name.now ≡ Some text.now)) →
         Writes S.Store store.old store.new names (changed names name.now None) ⊥ result }
 {
     fill_row(row, name, text)?;
-    store.remove(ACCOUNTS, row)
+    store.remove(ACCOUNTS, row)?;
+    match find(store, row, key, name)? {
+        Found::Name => Err(StoreError::Corrupt),
+        Found::Later | Found::End => Ok(()),
+    }
 }
 
-/// Writes the row of a name in the place of the one with the text `old`. `row` is memory for a row.
+/// Writes the row of a name in the place of the one with the text `old`. `row` and `key` are memory for rows.
 ///
 /// # Errors
-/// Those of the store, and out of memory.
+/// Those of [`remove`], and [`StoreError::Unstorable`] if the row would have more than a billion bytes.
 pub fn replace<S: Store>(
     store: &mut S,
     row: &mut Row,
+    key: &mut Row,
     name: &str,
     old: &str,
     new: &str,
 ) -> Result<(), StoreError>
     requires { IsHonest S.Store store.old → (S.Store.view store.old).shape 0 ≡ Index plain }
     ensures writes { (names : Texts) →
-        (IsHonest S.Store store.old → get names name.now ≡ Some old.now) →
+        (IsHonest S.Store store.old → Sees (S.Store.view store.old) names × (get names name.now ≡ Some old.now)) →
         Writes S.Store store.old store.new names (changed names name.now (Some new.now))
-        (IsLong (name.now, new.now)) result }
+        (IsHuge (name.now, new.now)) result }
     ensures text { IsUtf8 new.now }
 {
-    remove(store, row, name, old)?;
-    insert(store, row, name, new)
+    remove(store, row, key, name, old)?;
+    put(store, row, name, new)
 }
 
 /// Writes the rows of new names with their texts, up to the first that has a row. If one has a row, the caller removes

@@ -2,8 +2,8 @@
 use Rattle.argon2_store.proofs.Imports.{arith, zero, suc, ◌≡◌, ◌⊎◌, ◌<◌, ◌∷◌, [], inl, inr, ℕ, List, Option, Some, None, Result, Ok, Err, Bool, true, false, refl, sym, ◌∙◌, ap}
 use Rattle.argon2_store.proofs.Imports.{IsTrue, get, Any, HasFailed, ◌↔◌, IfErr, IsErrAnd, IsSomeAnd, OnOk, length, length-map, get_or-map, ◌≤◌}
 use Rattle.argon2_store.proofs.Imports.{quiet_itself, StoreError, Ghosts, Texts, IfOk, IfSome, AddsNames, on_ok_weaker, Answers, error_of, IsClosed, IsErrorAt, Makes, Serves, AddsAll}
-use Rattle.argon2_store.proofs.Imports.{IsFirstTaken, Stays, database_of, read_of, call_error, Changes, IsHonest, IsLong, IsOpen, CrashLeaves, StaysQuiet, changed, AccountFile, FileError}
-use Rattle.argon2_store.proofs.Imports.{Closed, NameTaken, OutOfMemory, AddsShortName, NamedEdit, adding, named_edit, IsTooLong, additions, gives, is_refusal, names_after, name_of, refusal, HasCause}
+use Rattle.argon2_store.proofs.Imports.{IsFirstTaken, Stays, database_of, read_of, call_error, Changes, IsHonest, IsHuge, IsLong, IsOpen, CrashLeaves, StaysQuiet, changed, AccountFile, FileError}
+use Rattle.argon2_store.proofs.Imports.{Closed, NameTaken, OutOfMemory, AddsShortName, NamedEdit, adding, named_edit, IsOverlong, IsTooLong, long_if_huge, additions, gives, is_refusal, names_after, name_of, refusal, HasCause}
 use Rattle.argon2_store.proofs.Imports.{HasFailedBy, HasNames, NamesStay, lines_by, read_by, TellsFault, both_ways, changed_back, Keeps, IsSettled, err_is, shape_of, leaves_quiet, on_all}
 use Rattle.argon2_rows.specs.declared.view.Written.{Written}
 use Rattle.argon2_store.specs.declared.edit.Edit.{Edit}
@@ -193,7 +193,7 @@ module _ {S : Type 0} {g : Ghosts S} {edit : NamedEdit} {text : Option (List ℕ
   pub writes : {new : AccountFile S g} → refusal edit text ≡ None → {done : Result (Unit {0}) StoreError}
       → ((names : Texts) → HasNames mid names → Changes g (database_of mid) (database_of new) names
       (changed names (name_of edit) (gives edit text))
-      (IsSomeAnd (gives edit text) (λ text. IsLong (name_of edit, text))) done)
+      (IsSomeAnd (gives edit text) (λ text. IsOverlong edit (name_of edit, text))) done)
       → {r : Result (Unit {0}) FileError} → r ≡ read_of done → Serves (edit ∷ []) r old new
   writes {new} none {done} change {r} e before has =
       let read = reads before has in
@@ -204,6 +204,14 @@ module _ {S : Type 0} {g : Ghosts S} {edit : NamedEdit} {text : Option (List ℕ
       let within : 0 < length (edit ∷ []) = omega arith in
       writes_all read (λ clean long. (0, edit, within, refl, rw (had clean) long)) (λ clean. inr (all clean)) done
       (on_all done all) wrote r e
+
+-- what is too long for a row is too long for its edit
+pub overlong_new : (edit : NamedEdit) (text : Option (List ℕ)) (e : List ℕ × List ℕ) → refusal edit text ≡ None → text ≡ None
+    → IsLong e → IsOverlong edit e
+overlong_new edit text e none is long = grind arith
+
+pub overlong_row : (edit : NamedEdit) (e : List ℕ × List ℕ) → IsHuge e → IsOverlong edit e
+overlong_row edit e huge = grind (arith, long_if_huge e huge)
 
 -- a new name is no longer than it may be, if its row is written
 pub adds_short : (edit : NamedEdit) (text : Option (List ℕ)) (done result : Result (Unit {0}) StoreError)

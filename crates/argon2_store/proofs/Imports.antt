@@ -29,13 +29,13 @@ pub use Rattle.sqlite_wal.specs.Format.{checksum, is_big, part}
 pub use Rattle.sqlite_wal.specs.Recovery.{AreWhole, Image, IsIgnored, Replays, header}
 pub use Rattle.argon2_store.specs.Opening.{AreHeld, AreSound, HoldSoundly, AreUnharmed, IsFoundIn, HoldsNames, IsAfterOpens, IsTableOf, IsUnstarted, LeavesNames, MayHave, StandsFor, HasOtherFormat, HasVersion, IsDamaged, IsOfDamage, IsOfFormat, IsOfPair, ListsOne}
 pub use Rattle.argon2_store.specs.Opening.{IsBlankFile, Row, Table, outcomes, seen_image, AreClean, OnlyReads, PageMap, Wanted, IsSoundFile, header_in, version_in}
-pub use Rattle.argon2_rows.specs.Table.{Changes, HasFailed, HasRows, HoldsTable, IsUnwritten, IsHonest, IsLong, IsOpen, CrashLeaves, StaysQuiet, account, AddsNames, Finishes, Writes, catalog, TellsFault}
+pub use Rattle.argon2_rows.specs.Table.{Changes, HasFailed, HasRows, HoldsTable, IsUnwritten, IsHonest, IsHuge, IsLong, IsOpen, Sees, CrashLeaves, StaysQuiet, account, AddsNames, Finishes, Writes, catalog, TellsFault}
 pub use Rattle.argon2_rows.specs.Rows.{AreLines, AreTexts, rows_of}
 pub use Rattle.argon2_rows.specs.Table.{doubt, IsKept, StoreError, Index, Ghosts, Trees, catalog_tree, IsClean, plain}
 pub use Rattle.argon2_rows.specs.Names.{AddsAll, IsFirstTaken, Texts, changed, entry_of}
-pub use Rattle.argon2_rows.proofs.RowLemmas.{rows_of-once, get-at, changed_back, texts_changed}
-pub use Rattle.argon2_rows.proofs.TableLemmas.{IsSettled, Keeps, err_is, leaves_quiet, on_all, quiet_itself, has_same, some_kept, changes_of, has_either, reads_keep, shape_of, taken_back}
+pub use Rattle.argon2_rows.proofs.RowLemmas.{rows_of-once, get-at, changed_back, long_if_huge, texts_changed}
+pub use Rattle.argon2_rows.proofs.TableLemmas.{IsSettled, Keeps, err_is, leaves_quiet, on_all, quiet_itself, has_same, some_kept, changes_of, has_either, reads_keep, shape_of, taken_back, writes_more}
 pub use Rattle.argon2_store.specs.AccountFile.{Answers, IsClosed, IsErrorAt, Makes, Serves, Stays, error_of, database_of, HasNames, IsReady, HasCause, HasFailedBy, NamesStay, AccountFile}
-pub use Rattle.argon2_store.specs.Edits.{AddsShortName, IsTooLong, NamedEdit, adding, additions, gives, left_by, name_of, named_edit, names_after, refusal}
+pub use Rattle.argon2_store.specs.Edits.{AddsShortName, IsOverlong, IsTooLong, NamedEdit, adding, additions, gives, left_by, name_of, named_edit, names_after, refusal}
 pub use Rattle.argon2_store.specs.Errors.{log_error, call_error, is_refusal, read_of, IsOfDatabase, lines_by, read_by, FileError, Closed, NameTaken, OutOfMemory, OpenError}
 pub use Rattle.argon2_store.specs.Runs.{AreEventsOf, AreMade, DoAll, Does, EndsRun, FileCall, FileEvent, FileRun, IsFoundAfter, IsLate, IsLateOf, IsShutOut, events_of, makes, over_file, reads, text_by}

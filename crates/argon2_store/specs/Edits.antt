@@ -5,7 +5,7 @@ use Rattle.std.specs.Str.{bytes_eq}
 pub use Rattle.argon2_base.specs.PhcFields.{text_of}
 use Rattle.argon2_programs.specs.Locks.{is_locked, without_lock}
 use Rattle.argon2_rows.specs.Names.{Texts, changed, get}
-use Rattle.argon2_rows.specs.Table.{IsLong}
+use Rattle.argon2_rows.specs.Table.{IsHuge, IsLong}
 use Rattle.argon2_store.specs.Errors.{FileError, NameTaken, NameUnknown, Changed, Locked}
 use Rattle.argon2_store.specs.declared.edit.Edit.{Edit}
 use Rattle.argon2_store.specs.declared.edit.Edit.TheVariants as code
@@ -99,9 +99,15 @@ abbrev pub names_after : List NamedEdit → Texts → Result Texts FileError
 names_after [] names = Ok names
 names_after (edit ∷ edits) names = and_then (edited edit names) (names_after edits)
 
--- the text that the edit was to leave is too long
+-- The name or the text that an edit leaves has more bytes than a new one may have, or their row more than any row. The first is
+-- asked only of a name that is added.
+abbrev pub IsOverlong : NamedEdit → List ℕ × List ℕ → Type 0
+IsOverlong (adding name text) e = IsLong e
+IsOverlong _ e = IsHuge e
+
+-- what the edit was to leave is too long
 abbrev pub IsTooLong : Texts → NamedEdit → Type 0
-IsTooLong before edit = IsSomeAnd (gives edit (get before (name_of edit))) (λ text. IsLong (name_of edit, text))
+IsTooLong before edit = IsSomeAnd (gives edit (get before (name_of edit))) (λ text. IsOverlong edit (name_of edit, text))
 
 -- the edits that add names with their texts
 abbrev pub additions : List (List ℕ × List ℕ) → List NamedEdit

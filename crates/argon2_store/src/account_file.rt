@@ -60,17 +60,17 @@ impl<S: Store> AccountFile<S> {
     {
         let text = self.text_of(name)?;
         let change = row_edit(edit, text.as_deref())?;
-        let (store, row) = (&mut self.store, &mut self.row);
+        let (store, row, key) = (&mut self.store, &mut self.row, &mut self.key);
         let done = match change {
             RowEdit::Keep => return Ok(()),
             RowEdit::Insert(new) => insert(store, row, name, new.text().as_str()),
-            RowEdit::Replace(old, new) => replace(store, row, name, old, new.text().as_str()),
-            RowEdit::Remove(old) => remove(store, row, name, old),
+            RowEdit::Replace(old, new) => replace(store, row, key, name, old, new.text().as_str()),
+            RowEdit::Remove(old) => remove(store, row, key, name, old),
             RowEdit::Lock(old) => {
                 let locked = add_lock(self.alloc, old)?;
-                replace(store, row, name, old, locked.as_str())
+                replace(store, row, key, name, old, locked.as_str())
             }
-            RowEdit::Unlock(old, bare) => replace(store, row, name, old, bare),
+            RowEdit::Unlock(old, bare) => replace(store, row, key, name, old, bare),
         };
         read_result(finish(&mut self.store, done))
     }

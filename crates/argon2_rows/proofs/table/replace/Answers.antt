@@ -9,4 +9,4 @@ returns-clause-writes g c names has =
     let gone = changed-remove names name (Some c.args.new.now) in
     let none = get-changed names name None in
     writes_then (c.in_ok-remove.ensures.writes names has)
-    (rw gone at (c.insert.ensures.writes (changed names name None) (λ clean. none))) (λ long. long)
+    (rw gone at (c.put.ensures.writes (changed names name None) (λ clean. none))) (λ long. long)

@@ -1,6 +1,6 @@
 use Rattle.argon2_store.proofs.Imports.{◌≡◌, ◌∙◌, ◌≤◌, None, OnOk, IfSome, IsSomeAnd, IsUtf8, arith, length, refl, sym, option_copied, ∥∥₁_map, get, changed}
-use Rattle.argon2_store.proofs.Imports.{Changes, HasNames, HasRows, IsHonest, IsLong, Texts, Writes, changes_of, gives, has_either, name_of, named_edit, texts_changed}
-use Rattle.argon2_store.proofs.FileLemmas.{accepts, adds_short, cannot_serve, fails_after, name_of-named_edit, refuses, stays_short, writes}
+use Rattle.argon2_store.proofs.Imports.{Changes, HasNames, HasRows, IsHonest, IsOverlong, Sees, Texts, Writes, writes_more, changes_of, gives, has_either, name_of, named_edit, texts_changed}
+use Rattle.argon2_store.proofs.FileLemmas.{accepts, adds_short, overlong_new, overlong_row, cannot_serve, fails_after, name_of-named_edit, refuses, stays_short, writes}
 use Rattle.argon2_store.proofs.account_file.AccountFile.edit.Goals as goal
 use Rattle.argon2_store.proofs.account_file.AccountFile.edit.Goals.{After-as_deref, After-finish}
 use Rattle.argon2_store.proofs.account_file.AccountFile.edit.Goals.{in-Insert, in-Replace, in-Remove, in-Lock+in_ok-locked-in-Lock, in-Unlock}
@@ -16,31 +16,38 @@ looked_up g c names has clean =
 written : (g : _) (c : After-finish g) (before : Texts) → HasRows g.S.Store c.text_of.new.self.store before
     → let after = gives (named_edit c.args.name.now c.args.edit.now) (option_copied c.as_deref.result) in
     Changes g.S.Store c.text_of.new.self.store c.finish.new.store before (changed before c.args.name.now after)
-    (IsSomeAnd after (λ text. IsLong (c.args.name.now, text))) c.finish.result
+    (IsSomeAnd after (λ text. IsOverlong (named_edit c.args.name.now c.args.edit.now) (c.args.name.now, text))) c.finish.result
 written g c before has =
     let name = c.args.name.now in
     let after = gives (named_edit name c.args.edit.now) (option_copied c.as_deref.result) in
     let done = c.in_ok-change.ensures name in
     let known : IsHonest g.S.Store c.text_of.new.self.store → get before name ≡ option_copied c.as_deref.result =
     λ clean. c.in_ok-text.ensures.shows before has clean ∙ sym c.as_deref.ensures.value in
+    let sees : IsHonest g.S.Store c.text_of.new.self.store → Sees (g.S.Store.view c.text_of.new.self.store) before =
+    λ clean unbroken. has.1.seen clean (c.in_ok-text.ensures.open clean) in
+    let edit = named_edit name c.args.edit.now in
     let both : IfSome after IsUtf8 × Writes g.S.Store c.text_of.new.self.store c.match-change.self.1.0 before
-    (changed before name after) (IsSomeAnd after (λ text. IsLong (name, text))) c.match-change.done =
+    (changed before name after) (IsSomeAnd after (λ text. IsOverlong edit (name, text))) c.match-change.done =
     elim c.match-change.branch [
       | in-Insert w ↦
           let makes = rw w.in-Insert.is at done.1 in
-          let writes = w.insert-done.ensures.writes before (λ clean. known clean ∙ makes.0) in search arith
+          let writes = writes_more (w.insert-done.ensures.writes before (λ clean. known clean ∙ makes.0))
+          (overlong_new edit _ _ done.0 makes.0) in search arith
       | in-Replace w ↦
           let makes = rw w.in-Replace.is at done.1 in
-          let writes = w.replace-done.ensures.writes before (λ clean. known clean ∙ makes.0) in search arith
+          let writes = writes_more (w.replace-done.ensures.writes before (λ clean. (sees clean, known clean ∙ makes.0)))
+          (overlong_row edit _) in search arith
       | in-Remove w ↦
           let makes = rw w.in-Remove.is at done.1 in
-          let writes = w.remove-done.ensures.writes before (λ clean. known clean ∙ makes.0) in search arith
+          let writes = w.remove-done.ensures.writes before (λ clean. (sees clean, known clean ∙ makes.0)) in search arith
       | in-Lock+in_ok-locked-in-Lock w ↦
           let makes = rw w.in-Lock.is at done.1 in
-          let writes = w.replace-done-in-Lock.ensures.writes before (λ clean. known clean ∙ makes.0) in search arith
+          let writes = writes_more (w.replace-done-in-Lock.ensures.writes before (λ clean. (sees clean, known clean ∙ makes.0)))
+          (overlong_row edit _) in search arith
       | in-Unlock w ↦
           let makes = rw w.in-Unlock.is at done.1 in
-          let writes = w.replace-done-in-Unlock.ensures.writes before (λ clean. known clean ∙ makes.0) in search arith
+          let writes = writes_more (w.replace-done-in-Unlock.ensures.writes before (λ clean. (sees clean, known clean ∙ makes.0)))
+          (overlong_row edit _) in search arith
     ] in
     changes_of g.met.S.Store.settled (search arith) c.match-change.done c.finish.result has
     (texts_changed before name after has.0 c.utf8.name both.0) both.1 c.finish.ensures.finishes
