@@ -1,6 +1,6 @@
 -- Rows of names, one by one, and their lines.
 use Rattle.argon2_rows.proofs.Imports.{AllByRecursion, get-entries, arith, ap, refl, ◌≡◌, ℕ, List, [], ◌∷◌, map, Option, Some, None, IsSomeAnd, ◌∙◌, Texts, AreTexts, IsUtf8, entries, Row, plain, Index, Forward, order_of}
-use Rattle.argon2_rows.proofs.Imports.{sought, Advances, with_cursor, IsLineOf, breaks_line, AreLinesOf, AreWritten, Result, Ok, Err, MatchResult, row_of, rows_of, true, false, Written}
+use Rattle.argon2_rows.proofs.Imports.{sought, Advances, with_cursor, IsLineOf, breaks_line, AreCut, AreCutLines, AreLinesOf, AreWritten, Result, Ok, Err, MatchResult, row_of, rows_of, true, false, Written}
 use Rattle.argon2_rows.proofs.Imports.{Appends-kept, Appends-nil, Appends-trans, Keeps, from_key-none, Breaks, Failed}
 use Rattle.std.proofs.lemmas.List.Elements.{All-cons, All-nil}
 use Rattle.argon2_programs.proofs.Fronts.{front_of_longer, text_and_front}
@@ -13,6 +13,12 @@ use Rattle.argon2_rows.specs.declared.view.Written.TheVariants as written
 -- the name does not break its line
 abbrev Fits : View → List ℕ × List ℕ → Type 0
 Fits view e = breaks_line view e.0 ≡ false
+
+-- one line before a prefix of others
+cut_then : (view : View) (e : List ℕ × List ℕ) (es : List (List ℕ × List ℕ)) (old mid new : Option (List ℕ))
+    → IsLineOf view e old mid written.All → AreCutLines view es mid new → AreCutLines view (e ∷ es) old new
+cut_then view e es old mid new (first, fits) (before, after, is, fit, later) =
+    (e ∷ before, after, ap (λ l. e ∷ l) is, All-cons (Fits view) e before fits fit, text_and_front _ _ old mid new first later)
 
 -- one line before others
 line_then : (view : View) (e : List ℕ × List ℕ) (es : List (List ℕ × List ℕ)) (old mid new : Option (List ℕ)) (how : Written)
@@ -27,14 +33,19 @@ line_then view e es old mid new Breaks (first, fits) (before, after, at, is, fit
   breaks,
   Appends-trans old mid new _ _ first later,
 )
-line_then view e es old mid new (Failed why) (first, fits) (before, after, is, fit, later) =
-    (e ∷ before, after, ap (λ l. e ∷ l) is, All-cons (Fits view) e before fits fit, text_and_front _ _ old mid new first later)
+line_then view e es old mid new (Failed why) first later = cut_then view e es old mid new first later
 
--- the cursor has the rows of these names, and what becomes of their lines is what becomes of all
+-- before the first line
+pub none_cut : (view : View) (names : Texts) (out : Option (List ℕ)) → AreCut view names out out
+none_cut view names out = ([], entries names, refl, All-nil (Fits view), ([], [], refl, Appends-nil out))
+
+-- The cursor has the rows of these names. What becomes of their lines is what becomes of all, and a prefix of their lines is one
+-- of all.
 abbrev pub IsWriting : View → Shown → Texts → Option (List ℕ) → Option (List ℕ) → Type 0
 IsWriting view now names old mid = (left : List (List ℕ × List ℕ)) × (now.cursors 0 ≡ Some (map row_of left))
     × AllByRecursion (λ e. IsUtf8 e.0) left
     × ((out : Option (List ℕ)) (how : Written) → AreLinesOf view left mid out how → AreWritten view names old out how)
+    × ((out : Option (List ℕ)) → AreCutLines view left mid out → AreCut view names old out)
 
 -- a row whose line is written is followed by the next one, and after another all is said; each row has a line
 abbrev pub GoesOn : View → Shown → Texts → Option (List ℕ) → Option (List ℕ) → Option Written → Type 0
@@ -47,7 +58,13 @@ pub begin_lines : (view : View) (first now : Shown) (names : Texts) (out : Optio
     → AreTexts names → IsWriting view now names out out
 begin_lines view first now names out shape is rows texts =
     let named = each_name IsUtf8 (entries names) (λ k v found. (texts k v (get-entries names k ∙ found)).0) in
-    (entries names, grind (arith, from_key-none), named, λ end how lines. lines)
+    (entries names, grind (arith, from_key-none), named, λ end how lines. lines, λ end cut. cut)
+
+-- so far a prefix is there
+pub cut_there : (view : View) (now : Shown) (names : Texts) (old mid : Option (List ℕ)) → IsWriting view now names old mid
+    → AreCut view names old mid
+cut_there view now names old mid (left, at, named, rest, cuts) =
+    cuts mid ([], left, refl, All-nil (Fits view), ([], [], refl, Appends-nil mid))
 
 module _ (view : View) (now : Shown) (names : Texts) (old mid out : Option (List ℕ)) where
   -- the next row is that of a name
@@ -55,15 +72,20 @@ module _ (view : View) (now : Shown) (names : Texts) (old mid out : Option (List
       → (wrote : Option Written)
       → ((e : List ℕ × List ℕ) → IsUtf8 e.0 → row ≡ row_of e → IsSomeAnd wrote (IsLineOf view e mid out))
       → GoesOn view next names old out wrote
-  next_row next row ([], at, named, rest) moves wrote its = absurd cc
-  next_row next row (e ∷ left, at, named, rest) moves None its = its e named.0 cc
-  next_row next row (e ∷ left, at, named, rest) moves (Some written.All) its =
-      let line = its e named.0 cc in
-      (left, grind arith, named.1, λ end how more. rest end how (line_then view e left mid out end how line more))
-  next_row next row (e ∷ left, at, named, rest) moves (Some Breaks) its =
+  next_row next row ([], at, named, rest, cuts) moves wrote its = absurd cc
+  next_row next row (e ∷ left, at, named, rest, cuts) moves None its = its e named.0 cc
+  next_row next row (e ∷ left, at, named, rest, cuts) moves (Some written.All) its =
+      let line = its e named.0 cc in (
+        left,
+        grind arith,
+        named.1,
+        λ end how more. rest end how (line_then view e left mid out end how line more),
+        λ end more. cuts end (cut_then view e left mid out end line more),
+      )
+  next_row next row (e ∷ left, at, named, rest, cuts) moves (Some Breaks) its =
       let line = its e named.0 cc in
       rest out Breaks ([], left, e, refl, All-nil (Fits view), line.1, Appends-kept mid mid out [] (Appends-nil mid) line.0)
-  next_row next row (e ∷ left, at, named, rest) moves (Some (Failed why)) its =
+  next_row next row (e ∷ left, at, named, rest, cuts) moves (Some (Failed why)) its =
       let line = its e named.0 cc in
       rest out (Failed why) (
         e ∷ [],
@@ -77,9 +99,9 @@ module _ (view : View) (now : Shown) (names : Texts) (old mid out : Option (List
   pub all_written : IsWriting view now names old mid → now.cursors 0 ≡ Some [] → Keeps mid out
       → (done : Result (Unit {0}) Error) (how : Written) → MatchResult done (λ _. how ≡ written.All) (λ why. how ≡ Failed why)
       → AreWritten view names old out how
-  all_written ([], at, named, rest) ended kept (Ok x) how is =
+  all_written ([], at, named, rest, cuts) ended kept (Ok x) how is =
       rw is (rest out written.All (Appends-kept mid mid out [] (Appends-nil mid) kept, All-nil (Fits view)))
-  all_written ([], at, named, rest) ended kept (Err why) how is =
+  all_written ([], at, named, rest, cuts) ended kept (Err why) how is =
       rw is (rest out (Failed why)
       ([], [], refl, All-nil (Fits view), ([], [], refl, Appends-kept mid mid out [] (Appends-nil mid) kept)))
-  all_written (e ∷ left, at, named, rest) ended kept done how is = absurd cc
+  all_written (e ∷ left, at, named, rest, cuts) ended kept done how is = absurd cc

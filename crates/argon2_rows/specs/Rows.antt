@@ -88,6 +88,11 @@ IsLineOf view e old new written.All = Appends old new (line view e) × (breaks_l
 IsLineOf view e old new Breaks = Keeps old new × (breaks_line view e.0 ≡ true)
 IsLineOf view e old new (Failed why) = AppendsFront old new (line view e) × (breaks_line view e.0 ≡ false)
 
+-- a prefix is there of the lines of these names, up to the first that breaks its line
+abbrev pub AreCutLines : View → List (List ℕ × List ℕ) → Option (List ℕ) → Option (List ℕ) → Type 0
+AreCutLines view es old new = (before after : List (List ℕ × List ℕ))
+    × (es ≡ before ++ after) × AreFitLines view before × AppendsFront old new (flat_map (line view) before)
+
 -- the lines of these names are written, or those before the first name that breaks it, and no more; or writing failed, and a
 -- front is there of such lines
 abbrev pub AreLinesOf : View → List (List ℕ × List ℕ) → Option (List ℕ) → Option (List ℕ) → Written → Type 0
@@ -95,9 +100,12 @@ AreLinesOf view es old new written.All = Appends old new (flat_map (line view) e
 AreLinesOf view es old new Breaks = (before after : List (List ℕ × List ℕ)) × (e : List ℕ × List ℕ)
     × (es ≡ before ++ e ∷ after) × AreFitLines view before × (breaks_line view e.0 ≡ true)
     × Appends old new (flat_map (line view) before)
-AreLinesOf view es old new (Failed why) = (before after : List (List ℕ × List ℕ))
-    × (es ≡ before ++ after) × AreFitLines view before × AppendsFront old new (flat_map (line view) before)
+AreLinesOf view es old new (Failed why) = AreCutLines view es old new
 
 -- the lines of all names
 abbrev pub AreWritten : View → Texts → Option (List ℕ) → Option (List ℕ) → Written → Type 0
 AreWritten view names = AreLinesOf view (entries names)
+
+-- a prefix of them
+abbrev pub AreCut : View → Texts → Option (List ℕ) → Option (List ℕ) → Type 0
+AreCut view names = AreCutLines view (entries names)

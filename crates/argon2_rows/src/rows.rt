@@ -5,7 +5,7 @@ ghost use Rattle.std.specs.Option.{option_map};
 ghost use Rattle.sqlite_trees.specs.View.{IsFailure, KeepsSchema};
 ghost use Rattle.sqlite_trees.specs.declared.error.StoreError.TheVariants.{OutOfMemory};
 ghost use Rattle.argon2_rows.specs.Names.{Texts, get};
-ghost use Rattle.argon2_rows.specs.Rows.{AreLines, AreTexts, AreWritten, IsAccount, IsFoundAs, IsLineOf, digit, line, row_of, rows_of, shown, shown_char, Appends, AppendsFront, Text};
+ghost use Rattle.argon2_rows.specs.Rows.{AreCut, AreLines, AreTexts, AreWritten, IsAccount, IsFoundAs, IsLineOf, digit, line, row_of, rows_of, shown, shown_char, Appends, AppendsFront, Text};
 ghost use Rattle.argon2_rows.specs.declared.view.Written.TheVariants.{All, Failed};
 ghost use Rattle.argon2_rows.specs.Table.{HasRows, IsDue, IsUnwritten, IsHonest, IsOpen, Sees, StaysQuiet, Writes, done_of, plain, Index};
 
@@ -263,7 +263,7 @@ fn digit(n: u8) -> u8
 /// the last. No clause says that it is flushed. `row` is memory for a row.
 ///
 /// # Errors
-/// Those of the store.
+/// Those of the store. A prefix of these lines is written then.
 pub fn write_rows<S: Store, W: Write>(
     store: &mut S,
     row: &mut Row,
@@ -272,8 +272,9 @@ pub fn write_rows<S: Store, W: Write>(
 ) -> Result<Written, StoreError>
     requires { IsHonest S.Store store.old → (S.Store.view store.old).shape 0 ≡ Index plain }
     ensures shows { (names : Texts) → AreTexts names → Sees (S.Store.view store.old) names →
-        IfOk result (λ done. IsHonest S.Store store.new →
-        AreWritten view names (W.contents output.old) (W.contents output.new) done) }
+        IsHonest S.Store store.new → MatchResult result
+        (AreWritten view names (W.contents output.old) (W.contents output.new))
+        (λ _. AreCut view names (W.contents output.old) (W.contents output.new)) }
     ensures reads { (names : Texts) → AreTexts names →
         (IsHonest S.Store store.old → Sees (S.Store.view store.old) names) →
         Writes S.Store store.old store.new names names ⊥ (done_of result) }

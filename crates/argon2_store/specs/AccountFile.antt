@@ -2,7 +2,7 @@
 use Rattle.std.specs.Prelude.{◌≡◌, ◌⊎◌, ℕ, List, false, Any, Option, Some, None, IfSome, Result, Ok, Err, IfErr, IsErrAnd, IsTrue, ⊤, length}
 use Rattle.sqlite_trees.specs.declared.error.StoreError.TheVariants as below
 use Rattle.argon2_rows.specs.Names.{IsFirstTaken, Texts}
-use Rattle.argon2_rows.specs.Rows.{AreLines, AreWritten}
+use Rattle.argon2_rows.specs.Rows.{AreCut, AreLines, AreWritten}
 use Rattle.argon2_rows.specs.Table.{HasFailed, HasRows, IsHonest, IsOpen, TellsFault, CrashLeaves, StaysQuiet, StoreError, Ghosts}
 use Rattle.argon2_rows.specs.declared.view.View.{View}
 use Rattle.argon2_rows.specs.declared.view.Written.TheVariants as written
@@ -22,12 +22,12 @@ abbrev pub unindexed : {X : Type 0} → Result X (ℕ × FileError) → Result X
 unindexed (Ok x) = Ok x
 unindexed (Err e) = Err e.1
 
--- what was written of the lines of names
+-- what was written of the lines of names; after an error of the file a prefix of those up to the first that breaks its line
 abbrev pub WritesLines : View → Texts → Option (List ℕ) → Option (List ℕ) → Result (Unit {0}) LineError → Type 0
 WritesLines view names old new (Ok x) = AreWritten view names old new written.All
 WritesLines view names old new (Err Breaks) = AreWritten view names old new written.Breaks
 WritesLines view names old new (Err (Write e)) = AreWritten view names old new (written.Failed e)
-WritesLines view names old new (Err (File e)) = ⊤
+WritesLines view names old new (Err (File e)) = AreCut view names old new
 
 -- the error of an answer
 abbrev pub error_of : {X : Type 0} → Result X FileError → Option FileError

@@ -219,8 +219,8 @@ impl<S: Store> AccountFile<S> {
     /// # Errors
     /// - [`LineError::Breaks`]: a name [breaks its line](View::breaks_line). The lines before that of the first such
     ///   name are written, and no more.
-    /// - [`LineError::Write`]: `output` can't be written. It has got a front of these lines.
-    /// - [`LineError::File`]: those of [`text_of`](AccountFile::text_of). No clause says which lines are written.
+    /// - [`LineError::Write`]: `output` can't be written. It has got a prefix of these lines.
+    /// - [`LineError::File`]: those of [`text_of`](AccountFile::text_of). `output` has got a prefix of these lines.
     pub fn write_lines<W: Write>(&mut self, view: View, output: &mut W) -> Result<(), LineError>
         ensures reads { Reads (read_by result) self.old self.new }
         ensures shows { (names : Texts) → HasNames self.old names →

@@ -1,5 +1,6 @@
 use Rattle.argon2_rows.proofs.Imports.{rules, arith, IsHonest}
-use Rattle.argon2_rows.proofs.LineLemmas.{all_written, begin_lines, next_row}
+use Rattle.argon2_rows.proofs.TableLemmas.{err_is}
+use Rattle.argon2_rows.proofs.LineLemmas.{all_written, begin_lines, cut_there, next_row, none_cut}
 use Rattle.argon2_rows.proofs.rows.write_rows.Goals as goal
 
 pub loop-init : goal.loop-init
@@ -40,3 +41,23 @@ returns-in-None-clause-reads g c names texts sees =
     rw c.in-None.is at (next_row _ _ names _ _ _ _ _ (c.loop.invariant.lines (search arith) names texts (sees (search arith)))
     (rw c.if-not-branch.false at (c.in_ok-next.ensures.ok clean)) c.write_line.result c.write_line.ensures) in
     search arith
+
+-- after an error of the store a prefix is there
+
+pub returns-in_err-seek-clause-shows : goal.returns-in_err-seek-clause-shows
+returns-in_err-seek-clause-shows g c names texts sees clean =
+    rw (err_is _ _ c.from_residual.ensures.1) (none_cut c.args.view names (g.W.Write.contents c.args.output.now))
+
+pub returns-in_err-next-clause-shows : goal.returns-in_err-next-clause-shows
+returns-in_err-next-clause-shows g c names texts sees clean =
+    rw (err_is _ _ c.from_residual-in_err-next.ensures.1)
+    (cut_there _ (g.S.Store.view c.loop.store) names _ _ (c.loop.invariant.lines (search arith) names texts sees))
+
+pub returns-in-None-clause-shows : goal.returns-in-None-clause-shows
+returns-in-None-clause-shows g c names texts sees clean =
+    absurd (rw c.in-None.is at (next_row _ _ names _ _ _ _ _ (c.loop.invariant.lines (search arith) names texts sees)
+    (rw c.if-not-branch.false at (c.in_ok-next.ensures.ok clean)) c.write_line.result c.write_line.ensures))
+
+pub returns-clause-shows : goal.returns-clause-shows
+returns-clause-shows g c names texts sees clean =
+    cut_there _ (g.S.Store.view c.loop.store) names _ _ (c.loop.invariant.lines clean names texts sees)
