@@ -130,7 +130,7 @@ impl<S: Store> AccountFile<S> {
     /// [`set`](AccountFile::set). A text that is locked stays as it is.
     ///
     /// # Errors
-    /// As [`set`](AccountFile::set).
+    /// As [`set`](AccountFile::set). A name of more than 4096 bytes, which another program wrote, may be too long.
     pub fn lock(&mut self, name: &str) -> Result<(), FileError>
         ensures { Serves (locking name.now ∷ []) result self.old self.new }
     {
@@ -141,17 +141,17 @@ impl<S: Store> AccountFile<S> {
     /// is.
     ///
     /// # Errors
-    /// As [`remove`](AccountFile::remove).
+    /// As [`lock`](AccountFile::lock).
     pub fn unlock(&mut self, name: &str) -> Result<(), FileError>
         ensures { Serves (unlocking name.now ∷ []) result self.old self.new }
     {
         self.edit(name, &Edit::Unlock)
     }
 
-    /// Adds all of these new names with their texts, or none. Each name and each text has at most 4096 bytes. They are
-    /// written together: after a crash in the middle of the call the file holds all of them or none. They are written in
-    /// the order of the names. If `new` is in another order, this takes a sorted copy of it; without memory for the copy
-    /// they are written as they are listed, which takes longer.
+    /// Adds all of these new names with their texts, or none. Each name and each text has at most 4096 bytes, of which no
+    /// clause speaks. They are written together: after a crash in the middle of the call the file holds all of them or
+    /// none. They are written in the order of the names. If `new` is in another order, this takes a sorted copy of it;
+    /// without memory for the copy they are written as they are listed, which takes longer.
     ///
     /// # Errors
     /// Each comes with an index into `new`:
