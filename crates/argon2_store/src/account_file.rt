@@ -9,7 +9,7 @@ ghost use Rattle.argon2_store.specs.Errors.{is_refusal, read_by};
 use crate::edit::{Edit, RowEdit, row_edit};
 use crate::error::{FileError, LineError, OpenError, call_error, line_result, read_result};
 use crate::format::check_headers;
-use crate::opening::{log_len, open_files, open_path, restore_log};
+use crate::opening::{log_len, log_to_leave, open_files, open_path, restore_log};
 use argon2_base::phc::PasswordHash;
 use argon2_rows::rows::{are_rows_sound, look_up, write_rows};
 use argon2_rows::table::{AddError, finish, insert, remove, replace, undo_failed};
@@ -148,10 +148,10 @@ impl<S: Store> AccountFile<S> {
         self.edit(name, &Edit::Unlock)
     }
 
-    /// Adds all of these new names with their texts, or none. Each name and each text has at most 4096 bytes, of which no
-    /// clause speaks. They are written together: after a crash in the middle of the call the file holds all of them or
-    /// none. They are written in the order of the names. If `new` is in another order, this takes a sorted copy of it;
-    /// without memory for the copy they are written as they are listed, which takes longer.
+    /// Adds all of these new names with their texts, or none. Each name and each text has at most 4096 bytes; no clause
+    /// says so. They are written together: after a crash in the middle of the call the file holds all of them or none.
+    /// They are written in the order of the names. If `new` is in another order, this takes a sorted copy of it; without
+    /// memory for the copy they are written as they are listed, which takes longer.
     ///
     /// # Errors
     /// Each comes with an index into `new`:
@@ -283,8 +283,9 @@ impl<T: Start> AccountsAt<T> {
     pub fn open(rt: &HostRuntime, path: &str, start: T) -> Result<AccountsAt<T>, OpenError>
         ensures { IfOk result (IsFileFrom (image_at T.Start)) }
     {
-        let log = log_len(rt, path)?;
+        let before = log_len(rt, path)?;
         let (files, seed) = open_path(rt, path, start)?;
+        let log = log_to_leave(rt, path, before)?;
         match AccountFile::open_from(rt.alloc(), files, seed) {
             Ok(file) => Ok(file),
             Err((error, _files)) => {
@@ -310,8 +311,9 @@ impl<T: Start> AccountsAt<T> {
         requires { AreHeld (image_at T.Start) }
         ensures { IfOk result (IsFileFrom (image_at T.Start)) }
     {
-        let log = log_len(rt, path)?;
+        let before = log_len(rt, path)?;
         let (files, seed) = open_path(rt, path, start)?;
+        let log = log_to_leave(rt, path, before)?;
         match AccountFile::open_sound_from(rt.alloc(), files, seed) {
             Ok(file) => Ok(file),
             Err((error, _files)) => {

@@ -406,8 +406,23 @@ pub(crate) fn log_len(rt: &HostRuntime, path: &str) -> Result<Option<u64>, OpenE
     }
 }
 
-// Gives the log of a file that an open has refused for what it holds the length that it had before, or removes the log if there
-// was none. What the open has written lies behind that length. The files are still locked.
+// The length that a refusal has to leave the log of files that are locked now, so that no other process writes to the log. It is
+// `None` if the open has made the log, which is empty then. `before` is the length before the open.
+pub(crate) fn log_to_leave(
+    rt: &HostRuntime,
+    path: &str,
+    before: Option<u64>,
+) -> Result<Option<u64>, OpenError> {
+    let len = log_len(rt, path)?;
+    Ok(if before.is_none() && len == Some(0) {
+        None
+    } else {
+        len
+    })
+}
+
+// Gives the log of a file that an open has refused for what it holds the length that it had when the files were locked, or
+// removes it. What the open has written comes after that length. The files are still locked.
 pub(crate) fn restore_log(
     rt: &HostRuntime,
     path: &str,
