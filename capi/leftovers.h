@@ -10,8 +10,8 @@ static uint64_t general_registers[9];
 static uint8_t other_registers[1 << 14] __attribute__((aligned(64)));
 static bool has_xsave;
 
-/* Before a call. The other registers are cleared too: a new thread has those of the thread that starts it, in which a test may have
- * left a tag. */
+/* Before a call. The other registers are cleared too, since a new thread begins with the registers of the thread that starts it,
+ * and a test may have left a tag there. */
 static __attribute__((noinline)) void forget_registers(void) {
     const uint32_t mxcsr = 0x1F80;
     unsigned a, b, c, d;

@@ -122,8 +122,8 @@ abbrev pub settings_or_target : TargetValue → Result StoredValue Fault → Set
 settings_or_target target (Ok stored) = stored.settings
 settings_or_target target (Err fault) = target.settings
 
--- which hashes are asked for if a password is refused for this reason: those of a wrong one, none if the text is above the
--- bound, and perhaps fewer without memory
+-- The hashes that are asked for if a password is refused for this reason. They are the hashes of a wrong password. There are none
+-- if the text is above the bound, and there may be fewer if memory is refused.
 abbrev pub AsksFor : List HashValue → Denial → List HashValue → Type 0
 AsksFor wrong TooExpensive hashes = hashes ≡ []
 AsksFor wrong why hashes = (hashes ≡ wrong) ⊎ ((why ≡ Refused OutOfMemory) × ((n : ℕ) × (hashes ≡ take n wrong)))

@@ -88,7 +88,7 @@ IsLineOf view e old new written.All = Appends old new (line view e) × (breaks_l
 IsLineOf view e old new Breaks = Keeps old new × (breaks_line view e.0 ≡ true)
 IsLineOf view e old new (Failed why) = AppendsFront old new (line view e) × (breaks_line view e.0 ≡ false)
 
--- a prefix is there of the lines of these names, up to the first that breaks its line
+-- a prefix of the lines of these names is written, at most up to the first name that breaks its line
 abbrev pub AreCutLines : View → List (List ℕ × List ℕ) → Option (List ℕ) → Option (List ℕ) → Type 0
 AreCutLines view es old new = (before after : List (List ℕ × List ℕ))
     × (es ≡ before ++ after) × AreFitLines view before × AppendsFront old new (flat_map (line view) before)

@@ -263,7 +263,7 @@ fn digit(n: u8) -> u8
 /// the last. No clause says that it is flushed. `row` is memory for a row.
 ///
 /// # Errors
-/// Those of the store. A prefix of these lines is written then.
+/// The errors of the store. A prefix of these lines is written then.
 pub fn write_rows<S: Store, W: Write>(
     store: &mut S,
     row: &mut Row,

@@ -90,7 +90,7 @@ pub fn insert<S: Store>(
 ///
 /// # Errors
 /// - [`StoreError::Corrupt`]: the name still has a row, since the rows are out of order, or it had two.
-/// - those of the store, and out of memory.
+/// - the errors of the store, and out of memory.
 pub fn remove<S: Store>(
     store: &mut S,
     row: &mut Row,
@@ -116,7 +116,7 @@ pub fn remove<S: Store>(
 /// Writes the row of a name in the place of the one with the text `old`. `row` and `key` are memory for rows.
 ///
 /// # Errors
-/// Those of [`remove`], and [`StoreError::Unstorable`] if the row would have more than a billion bytes.
+/// The errors of [`remove`], and [`StoreError::Unstorable`] if the row would have more than a billion bytes.
 pub fn replace<S: Store>(
     store: &mut S,
     row: &mut Row,

@@ -31,8 +31,8 @@ IsUnstarted size image = IsBlankFile size image
 abbrev pub ListsOne : ℕ → PageMap → Type 0
 ListsOne size pages = length (rows_at size (in_use size pages) Table 1) ≡ 1
 
--- a row of sqlite_schema is that of the table, whatever its first page is: after the rowid come the type, the name, the table,
--- that page and the SQL text
+-- A row of sqlite_schema describes the table of accounts. Its columns after the rowid are the type, the name, the table, the
+-- first page and the SQL text. The first page may be any.
 abbrev pub IsTableRow : Row → Type 0
 IsTableRow row = column row 1 ∷ column row 2 ∷ column row 3 ∷ column row 5 ∷ [] ≡ account.row
 

@@ -220,7 +220,7 @@ impl<S: Store> AccountFile<S> {
     /// - [`LineError::Breaks`]: a name [breaks its line](View::breaks_line). The lines before that of the first such
     ///   name are written, and no more.
     /// - [`LineError::Write`]: `output` can't be written. It has got a prefix of these lines.
-    /// - [`LineError::File`]: those of [`text_of`](AccountFile::text_of). `output` has got a prefix of these lines.
+    /// - [`LineError::File`]: the errors of [`text_of`](AccountFile::text_of). `output` has got a prefix of these lines.
     pub fn write_lines<W: Write>(&mut self, view: View, output: &mut W) -> Result<(), LineError>
         ensures reads { Reads (read_by result) self.old self.new }
         ensures shows { (names : Texts) → HasNames self.old names →
@@ -267,8 +267,8 @@ impl<T: Start> AccountsAt<T> {
     ///
     /// An open that fails leaves the accounts in the file as they were: see [`failed_open`](crate::failed_open). A file that
     /// holds something else, or another format, keeps each byte, and the log that it had; a log that the open has made is
-    /// removed. No clause says so, nor which error it answers; that of [`open_from`](AccountFile::open_from) does, on two
-    /// files.
+    /// removed. No clause says so, nor which error it answers. The clause of [`open_from`](AccountFile::open_from) says
+    /// which error an open of two files answers.
     ///
     /// # Errors
     /// - [`OpenError::Path`]: the system refuses to open or to make the file.

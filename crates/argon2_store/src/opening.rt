@@ -76,8 +76,8 @@ fn is_text(value: ValueRef<'_>, text: &str) -> bool
     is_same(value, ValueRef::Text(text.as_bytes()))
 }
 
-// Whether a row of `sqlite_schema` is that of the table: its columns after the rowid are the type, the name, the table, the first
-// page, which may be any, and the SQL text.
+// Whether a row of `sqlite_schema` describes the table of accounts. Its columns after the rowid are the type, the name, the
+// table, the first page, which may be any, and the SQL text.
 fn is_table_row(row: &Row) -> bool
     ensures { IsTrue result ↔ IsTableRow row.now }
 {
