@@ -8,7 +8,7 @@ import sys
 HERE = os.path.dirname(os.path.realpath(__file__))
 TOP = os.path.dirname(HERE)
 # What bash runs to use the scripts of this repository.
-SCRIPTS = 'name=bench usage= share=; source "$0/scripts/common"; source "$root/scripts/building"; '
+SCRIPTS = 'name=bench usage=; source "$0/build/common"; source "$root/build/levels"; '
 # An environment in which the C library gives large memory in huge pages.
 HUGE_PAGES = {**os.environ, "GLIBC_TUNABLES": "glibc.malloc.hugetlb=1"}
 
@@ -58,7 +58,7 @@ def built(top, name, libraries, sources, words=()):
     own = [line for line in read(f"{TOP}/crates.txt").splitlines() if line.partition(":")[0] in needed]
     write(f"{top}/crates.txt", "\n".join([*own, f"{name}: {libraries}", ""]))
     os.makedirs(f"{top}/crates")
-    os.symlink(f"{TOP}/scripts", f"{top}/scripts")
+    os.symlink(f"{TOP}/build", f"{top}/build")
     for line in own:
         run("cp", "-r", f"{TOP}/crates/{line.partition(':')[0]}", f"{top}/crates")
     folder, programs = f"{top}/crates/{name}", {}

@@ -1,4 +1,4 @@
-//! Argon2 for C: what `capi/argon2.c` and `capi/argon2_phc.c` call, under the codes of `argon2.h` and
+//! Argon2 for C: what `bindings/c/argon2.c` and `bindings/c/argon2_phc.c` call, under the codes of `argon2.h` and
 //! `argon2_phc.h`.
 //!
 //! - [`request`]: what a caller asks for, and the first reason to refuse it.

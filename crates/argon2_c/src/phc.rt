@@ -1,4 +1,4 @@
-//! What `capi/argon2_phc.h` is built on: texts of the grammar of `argon2::phc`, with a secret and within a
+//! What `bindings/c/argon2_phc.h` is built on: texts of the grammar of `argon2::phc`, with a secret and within a
 //! bound. No call allocates.
 
 mod fault;

@@ -1,0 +1,211 @@
+/*
+ * Lanes filled by several threads; argon2.c includes this. The memory is laid out slice by slice, in each slice lane by
+ * lane, so that a segment, the slices before its own and those behind it are three ranges that lie apart.
+ *
+ * The tag is that of the law `segments_apart` under these conditions, which this C keeps and no proof sees. With S = m / (4 p):
+ * - All calls of a hash have the same request, secret and data, and argon2_c_finish an output of the length given to
+ *   argon2_c_begin.
+ * - One memory of 4 S p blocks lives through all calls. argon2_c_begin has its first slice and argon2_c_finish its last.
+ * - argon2_c_segment has, of slice k and lane l, the first k S p blocks of it, the S blocks from (k p + l) S on, and all from
+ *   (k + 1) S p on.
+ * - Each pass, slice and lane has one such call, after argon2_c_begin. All of a slice return before one of the next slice
+ *   begins, in each pass in turn, and what they wrote is seen by those that follow.
+ * - Nothing else writes to the memory from argon2_c_begin to the last segment, and to the last slice until argon2_c_finish
+ *   returns.
+ * - Each call's answer is looked at, and if one is not 0 no tag is given.
+ */
+#include <pthread.h>
+#include <sched.h>
+#include <signal.h>
+
+enum {
+    FROM_HERE_IN_THREADS = 4 << 10, /* blocks: with less memory no thread pays */
+    STACK = 256 << 10, /* of each thread beside the default, which has room for the thread-local memory but may have no more */
+    LOOKS = 200, /* of a thread that waits for the next slice, before it sleeps */
+};
+
+/* 1 in a build of tests/c/check-races, in which no slice waits for the one before it. */
+#ifndef RACES
+#define RACES 0
+#endif
+
+/* A hash that several threads make. */
+struct filling {
+    const argon2_context *context;
+    const struct request *request;
+    block *blocks;
+    size_t segment; /* its columns */
+    uint32_t workers; /* threads, with the caller's */
+    pthread_mutex_t lock; /* for what follows */
+    pthread_cond_t changed;
+    uint32_t pass, slice;
+    uint32_t taken, filled; /* lanes of the slice; all are taken until the first slice is begun */
+    uint32_t unwiped; /* segments of the first three slices; they are wiped when all slices are filled */
+    int answer; /* the first that is not 0 */
+};
+
+/* How many blocks a hash uses, of those that it may. */
+static size_t block_count(const argon2_context *c) {
+    return (size_t)(c->m_cost / (4 * c->lanes)) * (4 * c->lanes);
+}
+
+/* How many threads make a hash, with the caller's. */
+static uint32_t worker_count(const argon2_context *c) {
+    const uint32_t useful = c->threads < c->lanes ? c->threads : c->lanes;
+    const int error = errno;
+    uint32_t usable = CPU_SETSIZE;
+    cpu_set_t set;
+    if (useful == 1 || block_count(c) < FROM_HERE_IN_THREADS) return 1;
+    if (sched_getaffinity(0, sizeof set, &set) == 0) usable = (uint32_t)CPU_COUNT(&set);
+    errno = error;
+    if (usable == 0) return 1; /* a filter of system calls can answer that all went well and write nothing */
+    return useful < usable ? useful : usable;
+}
+
+/* Fills the segments of `n` lanes, beginning with `lane`. */
+static int fill_segments(const struct filling *f, uint32_t pass, uint32_t slice, uint32_t lane, uint32_t n) {
+    const argon2_context *c = f->context;
+    const size_t width = f->segment * c->lanes;
+    block *here = f->blocks + slice * width;
+    int answer = ARGON2_OK;
+    for (struct place at = {pass, slice, lane}; at.lane < lane + n && answer == ARGON2_OK; at.lane++)
+        answer = argon2_c_segment(f->request, SECRET_AND_DATA(c), f->blocks, slice * width, here + at.lane * f->segment,
+            f->segment, here + width, (3 - slice) * width, &at);
+    return answer;
+}
+
+/* Begins the filling, or ends it if the first slice was not begun. */
+static void begin_filling(struct filling *f, int answer) {
+    pthread_mutex_lock(&f->lock);
+    f->answer = answer;
+    f->taken = 0;
+    pthread_cond_broadcast(&f->changed);
+    pthread_mutex_unlock(&f->lock);
+}
+
+/* Counts lanes as filled. After the last one of a slice the next slice begins. */
+static void count_filled(struct filling *f, uint32_t n) {
+    f->filled += n;
+    if (f->filled < f->context->lanes) return;
+    f->taken = f->filled = 0;
+    f->pass += f->slice == 3;
+    f->slice = (f->slice + 1) % 4;
+    pthread_cond_broadcast(&f->changed);
+}
+
+/* Waits about a microsecond. */
+static void wait_briefly(void) {
+    for (int i = 0; i < 16; i++) {
+#ifdef __x86_64__
+        __builtin_ia32_pause();
+#else
+        __asm__ volatile("yield");
+#endif
+    }
+}
+
+/* Takes lanes of the slice and fills their segments, again and again until the last slice is filled. Returns the same in all
+ * threads: whether each segment was. */
+static int fill_slices(struct filling *f) {
+    int result, looks = 0;
+    pthread_mutex_lock(&f->lock);
+    while (f->pass < f->context->t_cost && f->answer == ARGON2_OK) {
+        const uint32_t pass = f->pass, slice = f->slice, lane = f->taken;
+        const uint32_t n = (f->context->lanes - lane + 2 * f->workers - 1) / (2 * f->workers);
+        int answer;
+        if (n == 0) {
+            if (looks++ < LOOKS) { /* a thread that sleeps may wake too late for its share of a short slice */
+                pthread_mutex_unlock(&f->lock);
+                wait_briefly();
+                pthread_mutex_lock(&f->lock);
+            } else {
+                pthread_cond_wait(&f->changed, &f->lock);
+            }
+            continue;
+        }
+        looks = 0;
+        f->taken += n;
+        if (RACES) count_filled(f, n);
+        pthread_mutex_unlock(&f->lock);
+        answer = fill_segments(f, pass, slice, lane, n);
+        pthread_mutex_lock(&f->lock);
+        if (!RACES) count_filled(f, n);
+        if (answer != ARGON2_OK) {
+            f->answer = answer;
+            pthread_cond_broadcast(&f->changed);
+        }
+    }
+    result = f->answer;
+    pthread_mutex_unlock(&f->lock);
+    wipe_stack();
+    return result;
+}
+
+/* Wipes segments of the first three slices, until none is left. The tag is made of the last slice meanwhile. */
+static void wipe_slices(struct filling *f) {
+    pthread_mutex_lock(&f->lock);
+    while (f->unwiped > 0) {
+        block *at = f->blocks + --f->unwiped * f->segment;
+        pthread_mutex_unlock(&f->lock);
+        wipe(at, f->segment * sizeof *at);
+        pthread_mutex_lock(&f->lock);
+    }
+    pthread_mutex_unlock(&f->lock);
+}
+
+static void *work(void *filling) {
+    if (fill_slices(filling) == ARGON2_OK) wipe_slices(filling);
+    return NULL;
+}
+
+/* Starts as many of the other threads as can be started, and returns how many. They take no signals but those of their
+ * own faults. */
+static uint32_t start_threads(struct filling *f, pthread_t *threads) {
+    static const int faults[] = {SIGSEGV, SIGBUS, SIGILL, SIGFPE, SIGTRAP, SIGSYS};
+    const int error = errno;
+    uint32_t started = 0;
+    pthread_attr_t attributes;
+    size_t size = 0;
+    sigset_t blocked, before;
+    if (pthread_attr_init(&attributes) != 0) return 0;
+    pthread_attr_getstacksize(&attributes, &size);
+    pthread_attr_setstacksize(&attributes, size + STACK);
+    sigfillset(&blocked);
+    for (size_t i = 0; i < sizeof faults / sizeof *faults; i++) sigdelset(&blocked, faults[i]);
+    pthread_sigmask(SIG_BLOCK, &blocked, &before);
+    while (started + 1 < f->workers && pthread_create(&threads[started], &attributes, work, f) == 0) started++;
+    pthread_sigmask(SIG_SETMASK, &before, NULL);
+    pthread_attr_destroy(&attributes);
+    errno = error;
+    return started;
+}
+
+/* Hashes as `argon2_c_hash` does, with so many threads. They have ended when this returns. */
+static __attribute__((noinline)) int hash_in_threads(const argon2_context *c, const struct request *request, uint8_t *out,
+    block *memory, bool wipes, uint32_t workers) {
+    const size_t width = block_count(c) / 4;
+    block *const last = memory + 3 * width;
+    struct filling f = {
+        .context = c, .request = request, .blocks = memory, .segment = width / c->lanes, .workers = workers,
+        .taken = c->lanes,
+        .unwiped = wipes ? 3 * c->lanes : 0, .lock = PTHREAD_MUTEX_INITIALIZER, .changed = PTHREAD_COND_INITIALIZER,
+    };
+    pthread_t threads[CPU_SETSIZE];
+    uint32_t started;
+    int cancelling, answer;
+    pthread_setcancelstate(PTHREAD_CANCEL_DISABLE, &cancelling);
+    started = start_threads(&f, threads);
+    answer = argon2_c_begin(request, INPUTS(c), c->outlen, memory, width);
+    begin_filling(&f, answer);
+    answer = fill_slices(&f);
+    if (answer == ARGON2_OK) {
+        answer = argon2_c_finish(request, last, width, out, c->outlen);
+        if (wipes) wipe(last, width * sizeof *last);
+        wipe_slices(&f);
+    }
+    while (started > 0) pthread_join(threads[--started], NULL);
+    pthread_setcancelstate(cancelling, NULL);
+    wipe_stack();
+    if (wipes && answer != ARGON2_OK) wipe(memory, 4 * width * sizeof(block));
+    return answer;
+}

@@ -1,0 +1,162 @@
+/*
+ * SPDX-FileCopyrightText: 2026 The maintainers of this repository
+ * SPDX-License-Identifier: MIT OR Apache-2.0
+ *
+ * How each command starts. The command's file holds the program as compiled for one or more levels of x86-64. This start calls the
+ * program of the highest level that the processor has. Before, it forbids core dumps, and gives argon2-passwd a umask by which a new
+ * file is for its owner only. While the program runs, the start asks for huge pages, and hides what is typed after a question.
+ *
+ * build/link compiles this file, and defines NAME as the command's name.
+ */
+#define _GNU_SOURCE
+#include <errno.h>
+#include <signal.h>
+#include <stdbool.h>
+#include <stdint.h>
+#include <stdlib.h>
+#include <string.h>
+#include <sys/mman.h>
+#include <sys/prctl.h>
+#include <sys/resource.h>
+#include <sys/stat.h>
+#include <sys/uio.h>
+#include <termios.h>
+#include <unistd.h>
+
+/* The program for each level. The linker leaves NULL for a level that the command lacks. */
+typedef int program(int argc, char **argv, char **environment);
+extern program main_v2 __attribute__((weak)), main_v3 __attribute__((weak)), main_v4 __attribute__((weak));
+
+/* By --wrap the linker sends the program's calls of malloc, write and writev to the functions __wrap_ below. */
+extern void *__real_malloc(size_t bytes);
+extern void *__wrap_malloc(size_t bytes);
+extern ssize_t __real_write(int file, const void *bytes, size_t count);
+extern ssize_t __wrap_write(int file, const void *bytes, size_t count);
+extern ssize_t __real_writev(int file, const struct iovec *parts, int count);
+extern ssize_t __wrap_writev(int file, const struct iovec *parts, int count);
+
+/* Allocates memory as malloc does. Memory of 2 MiB and more is in huge pages if the system has them: a large hash then has few page
+ * faults. */
+void *__wrap_malloc(size_t bytes)
+{
+    const uintptr_t page = 4096, huge = 2 << 20;
+    void *memory = __real_malloc(bytes);
+
+    if (memory != NULL && bytes >= huge) {
+        uintptr_t start = ((uintptr_t)memory + page - 1) & -page, end = ((uintptr_t)memory + bytes) & -page;
+        madvise((void *)start, end - start, MADV_HUGEPAGE);
+    }
+    return memory;
+}
+
+/* The signals that end, stop or continue a command at a terminal, and what each did before the terminal hid what is typed. */
+static const int SIGNALS[] = {SIGHUP, SIGINT, SIGQUIT, SIGTERM, SIGTSTP, SIGCONT};
+enum { COUNT = sizeof SIGNALS / sizeof *SIGNALS };
+static struct sigaction actions[COUNT];
+
+/* Whether the terminal hides what is typed, and the modes that the terminal had before. */
+static bool is_hidden;
+static struct termios modes;
+
+/* Has the terminal hide what is typed. */
+static void hide(void)
+{
+    struct termios hidden = modes;
+
+    hidden.c_lflag &= ~(tcflag_t)(ECHO | ECHONL);
+    tcsetattr(STDIN_FILENO, TCSADRAIN, &hidden);
+}
+
+/* The terminal shows what is typed before a signal ends or stops the command, and hides it again after a stop. */
+static void take_signal(int number)
+{
+    const struct sigaction usual = {.sa_handler = SIG_DFL};
+    struct sigaction own;
+    int error = errno;
+
+    if (number != SIGCONT) {
+        tcsetattr(STDIN_FILENO, TCSADRAIN, &modes);
+        sigaction(number, &usual, &own);
+        raise(number);
+        sigaction(number, &own, NULL);
+    }
+    hide();
+    errno = error;
+}
+
+/* Begins to hide what is typed, if standard input is a terminal. */
+static void begin_hiding(void)
+{
+    /* (SA_NODEFER: the signal that take_signal raises comes at once. A read of the terminal goes on after a stop.) */
+    const struct sigaction taking = {.sa_handler = take_signal, .sa_flags = SA_NODEFER | SA_RESTART};
+    int i;
+
+    if (is_hidden || tcgetattr(STDIN_FILENO, &modes) != 0)
+        return;
+    is_hidden = true;
+    for (i = 0; i < COUNT; i++) {
+        sigaction(SIGNALS[i], &taking, &actions[i]);
+        /* (what the caller has the command ignore stays ignored) */
+        if (actions[i].sa_handler == SIG_IGN)
+            sigaction(SIGNALS[i], &actions[i], NULL);
+    }
+    hide();
+}
+
+/* Has the terminal show again what is typed. */
+static void end_hiding(void)
+{
+    int i, error = errno;
+
+    if (!is_hidden)
+        return;
+    tcsetattr(STDIN_FILENO, TCSADRAIN, &modes);
+    for (i = 0; i < COUNT; i++)
+        sigaction(SIGNALS[i], &actions[i], NULL);
+    is_hidden = false;
+    errno = error;
+}
+
+/* Writes the bytes of several parts. A question is text on standard error that does not end its line: the terminal hides what is
+ * typed from before the question until the program has ended the line. */
+ssize_t __wrap_writev(int file, const struct iovec *parts, int count)
+{
+    const char *last = NULL;
+    ssize_t written;
+    int i;
+
+    for (i = 0; i < count; i++)
+        if (parts[i].iov_len > 0)
+            last = (const char *)parts[i].iov_base + parts[i].iov_len - 1;
+    if (file == STDERR_FILENO && last != NULL && *last != '\n')
+        begin_hiding();
+    written = __real_writev(file, parts, count);
+    if (file == STDERR_FILENO && last != NULL && *last == '\n')
+        end_hiding();
+    return written;
+}
+
+/* The same for bytes in one place. */
+ssize_t __wrap_write(int file, const void *bytes, size_t count)
+{
+    const struct iovec part = {(void *)(uintptr_t)bytes, count};
+
+    return file == STDERR_FILENO ? __wrap_writev(file, &part, 1) : __real_write(file, bytes, count);
+}
+
+int main(int argc, char **argv, char **environment)
+{
+    /* A new file with accounts is for its owner only. */
+    if (strcmp(NAME, "argon2-passwd") == 0)
+        umask(077);
+    /* A core dump would have the password. The kernel does not look at the limit if a program collects core dumps. */
+    setrlimit(RLIMIT_CORE, &(struct rlimit){0, 0});
+    prctl(PR_SET_DUMPABLE, 0, 0, 0, 0);
+    atexit(end_hiding);
+    /* (the program of the lowest level says what an older processor lacks) */
+    if (main_v4 != NULL && (__builtin_cpu_supports("x86-64-v4") || (main_v3 == NULL && main_v2 == NULL)))
+        return main_v4(argc, argv, environment);
+    if (main_v3 != NULL && (__builtin_cpu_supports("x86-64-v3") || main_v2 == NULL))
+        return main_v3(argc, argv, environment);
+    return main_v2(argc, argv, environment);
+}

@@ -1,0 +1,239 @@
+"""What the scripts of this folder share: the built programs, processes with a limit of time, and the count of what passed."""
+
+import contextlib
+import glob
+import os
+import re
+import shutil
+import signal
+import subprocess
+import sys
+import tempfile
+import time
+
+ROOT = os.path.realpath(os.path.join(os.path.dirname(__file__), "../.."))
+CRATES = os.path.join(ROOT, "crates")
+with open(os.path.join(ROOT, "VERSION"), encoding="utf-8") as version:
+    VERSION = version.read().strip()
+# How many seconds a process may take, if its caller says nothing else.
+LIMIT = 300
+
+
+class Wrong(Exception):
+    """What a script found is not what it wants."""
+
+
+def check(holds, *found):
+    """Raises `Wrong` with what was found if this does not hold. Python's options can turn an `assert` off, but not this."""
+    if not holds:
+        raise Wrong(*found)
+
+
+def kill(process):
+    """Kills a process of this number, and all that it has started."""
+    for path in glob.glob(f"/proc/{process}/task/*/children"):
+        with contextlib.suppress(OSError), open(path, encoding="ascii") as it:
+            for child in it.read().split():
+                kill(int(child))
+    with contextlib.suppress(OSError):
+        os.kill(process, signal.SIGKILL)
+
+
+def finish(process, given=None, limit=LIMIT):
+    """The output and the errors of a process, which gets this input. It is `Wrong` if that takes too long; then it is killed."""
+    try:
+        return process.communicate(given, timeout=limit)
+    except subprocess.TimeoutExpired:
+        raise Wrong(f"more than {limit} seconds", process.args) from None
+    finally:
+        if process.poll() is None:
+            kill(process.pid)
+
+
+def execute(words, limit=LIMIT, **how):
+    """As `subprocess.run`, with a limit of time."""
+    given, is_checked = how.pop("input", None), how.pop("check", False)
+    if given is not None:
+        how["stdin"] = subprocess.PIPE
+    if how.pop("capture_output", False):
+        how |= {"stdout": subprocess.PIPE, "stderr": subprocess.PIPE}
+    with subprocess.Popen(words, **how) as process:
+        out, errors = finish(process, given, limit)
+    check(not is_checked or process.returncode == 0, words, process.returncode, out, errors)
+    return subprocess.CompletedProcess(words, process.returncode, out, errors)
+
+
+def end(cases):
+    """Tries cases, which are pairs of a name and a function, and ends the script with the line that tests/run reads.
+
+    A case fails if it raises an error, or returns a text that says why. It is left out if it returns False.
+    """
+    passed = failed = 0
+    for name, case in cases:
+        try:
+            why = case()
+        except Exception as error:  # noqa: BLE001
+            why = repr(error)
+        said = "left out, as something is missing" if why is False else f"FAILED: {why}" if why else "as it should be"
+        print(f"{name}: {said}", flush=True)
+        failed += bool(why)
+        passed += not why
+    print(f"{passed} passed, {failed} failed")
+    sys.exit(1 if failed else 0)
+
+
+def check_options(name, said):
+    """Requires that a program's man page and its completion have the options of its long help, with the same arguments.
+
+    They have them at the heads of paragraphs and in `options=`. No text of the two pages names another option.
+    """
+    words = f'. "$0"; COMP_WORDS=({name} --) COMP_CWORD=1; _argon2_programs {name}; echo "${{COMPREPLY[*]}}"'
+    offered = execute(["bash", "-c", words, f"{ROOT}/build/completion"], capture_output=True, text=True, check=True).stdout
+    pages = [said]
+    for path in f"man/{name}.1", "build/completion":
+        with open(f"{ROOT}/{path}", encoding="utf-8") as it:
+            pages.append(it.read().replace("\\-", "-").replace('"', ""))
+    heads = rf"^ +(?:-\w, |{name} )?(--.*)", r"^\.TP\n(.*)", rf"^ {{8}}{name}\)([^;]*)"
+    found = ["\n".join(re.findall(head, page, re.MULTILINE)) for head, page in zip(heads, pages, strict=True)]
+    wanted, *others = ({*re.findall(r"(--[a-z-]+)(?:[ =]+<?([A-Z]+))?", it)} for it in found)
+    check(wanted and all(it == wanted for it in others), name, *(wanted ^ it for it in others))
+    for text in (offered, *pages[:2]):
+        named = {*re.findall(r"--[a-z][a-z-]+", text)}
+        check(named == {it for it, _ in wanted}, name, named)
+
+
+def newest_source():
+    """When Rattle or a proof of the crates was last changed. A program that runs in its crate's folder may leave files there."""
+    newest = 0.0
+    for at, folders, names in os.walk(CRATES):
+        if "out" in folders:
+            folders.remove("out")
+        names = [name for name in names if name.endswith((".rt", ".antt"))]
+        newest = max([newest, *(os.path.getmtime(f"{at}/{name}") for name in names)])
+    return newest
+
+
+def built(crate):
+    """The path of a crate's command, which build/link makes of the object that `rt ci` or `rt run` left in the crate's out/.
+
+    `rt run` builds the program within an hour if there is none, or if a source is newer. If no object is left of it, or the crate is
+    no command's, the path is the program's own. If ARGON2_PROGRAMS names a folder, it is the file of the command's name there.
+    """
+    name = crate.removesuffix("_cli").replace("_", "-")
+    if folder := os.environ.get("ARGON2_PROGRAMS"):
+        return os.path.join(folder, name)
+    program = f"{CRATES}/{crate}/out/{crate}"
+    if not os.path.exists(program) or os.path.getmtime(program) < newest_source():
+        begun = time.time()
+        how = {"stdin": subprocess.DEVNULL, "capture_output": True, "text": True}
+        ran = execute(["rt", "run"], 3600, cwd=f"{CRATES}/{crate}", **how)
+        if "rt: running " not in ran.stdout + ran.stderr:
+            sys.exit(f"rt run built no {crate}:\n{ran.stdout}{ran.stderr}")
+        # (rt leaves the file as it is if the newer source is none of this program's)
+        os.utime(program, (begun, begun))
+    if not os.path.exists(f"{ROOT}/man/{name}.1") or not os.path.exists(f"{program}.o"):
+        return program
+    command = f"{ROOT}/out/tested/{name}"
+    if not os.path.exists(command) or os.path.getmtime(command) < os.path.getmtime(f"{program}.o"):
+        with tempfile.TemporaryDirectory() as top:
+            shutil.copy(f"{program}.o", f"{top}/{name}.x86-64-v2.o")
+            execute([f"{ROOT}/build/link", command, f"{top}/{name}.x86-64-v2.o"], check=True)
+    return command
+
+
+# A function as a line of a source defines it: how far it is from the margin, its visibility, and its name.
+FUNCTION = re.compile(r'^( *)(?:(pub)(\([a-z ]+\))? )?(?:(?:unsafe|const|extern "C") )*fn (\w+)', re.MULTILINE)
+# What begins the functions of a type.
+IMPL = re.compile(r"^(?:impl|(?:pub )?trait)\b(?:<(?:[^<>]|<[^<>]*>)*>)? ([^{]*)", re.MULTILINE)
+
+
+def module_of(crate, file):
+    """The path of a crate's module by its file: of argon2's `src/params/text.rt` it is `argon2::params::text`."""
+    parts = file.removeprefix("src/").removesuffix(".rt").split("/")
+    return "::".join([crate, *(it for it in parts if it not in ("lib", "main", "mod"))])
+
+
+class Function:
+    """A function of a crate's sources: its module, its type if it has one, its name, and whether it is public with a contract."""
+
+    def __init__(self, crate, file, text, found):
+        self.crate, self.module, self.name = crate, module_of(crate, file), found[4]
+        headers = IMPL.findall(text, 0, found.start()) if found[1] else []
+        self.type = re.match(r"&?(?:mut )?(\w+)", headers[-1].rpartition(" for ")[2])[1] if headers else ""
+        # (a contract ends before the body's brace, or the `;` of a trait's function)
+        head = re.split(r"\{$|^ *\{|;$", text[found.start() :], maxsplit=1, flags=re.MULTILINE)[0]
+        self.is_promise = bool(found[2] and not found[3] and re.search(r"^ *ensures ", head, re.MULTILINE))
+
+    def has_path(self, path):
+        """Whether a path, as a check prints it, is this function's. That of a type's function has the type's module."""
+        *modules, last = path.split("::")
+        if not self.type:
+            return path == f"{self.module}::{self.name}"
+        near = "".join(f"{it}::" for it in modules[:-2])
+        return last == self.name and modules[-1].startswith(self.type) and f"{self.module}::".startswith(near)
+
+
+class WrongBody:
+    """A file guards/CRATE/NAME.edit, or must-fail/NAME.edit of a crate; tests/guards says what its lines are."""
+
+    def __init__(self, crate, path):
+        self.path, self.folder = path, f"{CRATES}/{crate}"
+        self.crate, self.name = crate, os.path.basename(path).removesuffix(".edit")
+        with open(path, encoding="utf-8") as it:
+            self.lines = it.read().rstrip("\n").split("\n")
+        self.promise = self.lines[0]
+        self.take_refused(self.line("refused: "))
+
+    def take_refused(self, words):
+        """What refuses it: these words, of which the first is a function, and the call whose promise it breaks."""
+        self.refused, self.function = words, words.split(",")[0]
+        self.call = self.line("call: ") or self.function
+
+    def line(self, begin):
+        """What is behind a line's first words, or nothing if there is no such line."""
+        return next((it.removeprefix(begin) for it in self.lines if it.startswith(begin)), "")
+
+    def write_refused(self, words):
+        """Writes the line `refused:` anew."""
+        self.lines = [self.promise, f"refused: {words}", *(it for it in self.lines[1:] if not it.startswith("refused: "))]
+        with open(self.path, "w", encoding="utf-8") as it:
+            it.write("\n".join([*self.lines, ""]))
+        self.take_refused(words)
+
+    def changes(self):
+        """Each change: its file, the text that stands there, and the one that takes its place."""
+        for line in self.lines:
+            if line.startswith("file: "):
+                file = line.removeprefix("file: ").strip()
+            elif line.startswith("old: "):
+                old = line.removeprefix("old: ")
+            elif line.startswith("new:"):
+                yield file, old, line.removeprefix("new:").removeprefix(" ")
+
+    def functions(self):
+        """The functions that it changes."""
+        for file, old, _ in self.changes():
+            with open(f"{self.folder}/{file}", encoding="utf-8") as it:
+                text = it.read()
+            found = [it for it in FUNCTION.finditer(text) if it.start() < text.find(old) + len(old)]
+            if file.startswith("src/") and found:
+                yield Function(self.crate, file, text, found[-1])
+
+
+def wrong_bodies(crate="*"):
+    """The wrong bodies of a crate, or of all, in the order of their names."""
+    found = []
+    for folder in sorted(glob.glob(f"{CRATES}/{crate}")):
+        name = os.path.basename(folder)
+        paths = glob.glob(f"{ROOT}/guards/{name}/*.edit") + glob.glob(f"{folder}/must-fail/*.edit")
+        found += [WrongBody(name, it) for it in sorted(paths, key=os.path.basename)]
+    return found
+
+
+def functions(crate="*"):
+    """Each function of a crate's sources, or of all."""
+    for path in sorted(glob.glob(f"{CRATES}/{crate}/src/**/*.rt", recursive=True)):
+        crate, _, file = os.path.relpath(path, CRATES).partition("/")
+        with open(path, encoding="utf-8") as it:
+            text = it.read()
+        yield from (Function(crate, file, text, found) for found in FUNCTION.finditer(text))

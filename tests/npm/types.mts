@@ -1,0 +1,44 @@
+// What the types of the package take and refuse, by `tsc --strict` (tests/npm/run).
+
+import { Argon2, Argon2Error, load, type Bound, type TextOptions } from "argon2-proved";
+import { load as loadInline } from "argon2-proved/inline";
+import { start } from "argon2-proved/worker";
+
+const argon2: Argon2 = await load(fetch("argon2.wasm"));
+const settings: TextOptions = { algorithm: "argon2id", memory: 65536, passes: 3, lanes: 1, secret: new Uint8Array(16) };
+const bound: Bound = { memory: 65536 };
+const text: string = argon2.hash("password", { ...settings, salt: new Uint8Array(16) });
+const accepts: boolean = argon2.verify(text, new ArrayBuffer(8), { secret: "secret", oldSecret: undefined, bound });
+const isOld: boolean = argon2.needsRehash(text, settings);
+const { version, salt }: { version: 16 | 19; salt: Uint8Array } = argon2.parse(text);
+const key: Uint8Array = await argon2.rawAsync("password", salt, {
+  passes: 3,
+  onProgress: (share) => share.toFixed(),
+  signal: new AbortController().signal,
+});
+const tags: Uint8Array[] = [key, (await loadInline()).raw("password", salt, { length: 16 })];
+
+const worker = start();
+const answers: [string, boolean, Uint8Array] = [
+  await worker.hash("password", settings),
+  await worker.verify(text, "password", { bound }),
+  await worker.raw("password", salt),
+];
+worker.terminate();
+
+try {
+  argon2.parse(text);
+} catch (error) {
+  if (error instanceof Argon2Error) console.log(error.code, error.number, accepts, isOld, version, tags, answers);
+}
+
+// @ts-expect-error: a number is wanted
+argon2.hash("password", { memory: "65536" });
+// @ts-expect-error: a tag has no key identifier
+argon2.raw("password", salt, { keyid: "key 1" });
+// @ts-expect-error: there is no such option
+argon2.hash("password", { parallelism: 1 });
+// @ts-expect-error: `load` returns a promise
+load().hash("password");
+// @ts-expect-error: `load` makes it
+new Argon2();
