@@ -2,6 +2,7 @@
 
 import contextlib
 import glob
+import importlib.util
 import os
 import re
 import shutil
@@ -23,10 +24,26 @@ class Wrong(Exception):
     """What a script found is not what it wants."""
 
 
+class Skipped(Exception):
+    """A case can't run here. The error takes what has it run: `install` with Debian's packages, or another reason."""
+
+
 def check(holds, *found):
     """Raises `Wrong` with what was found if this does not hold. Python's options can turn an `assert` off, but not this."""
     if not holds:
         raise Wrong(*found)
+
+
+def need(packages, *commands):
+    """Raises `Skipped` if one of these commands is missing, which Debian's packages have."""
+    if not all(map(shutil.which, commands)):
+        raise Skipped(f"install {packages}")
+
+
+def need_modules(*names):
+    """Raises `Skipped` if one of these modules of Python is missing. Debian's package of each is `python3-NAME`."""
+    if missing := [f"python3-{it}" for it in names if not importlib.util.find_spec(it)]:
+        raise Skipped(f"install {' '.join(missing)}")
 
 
 def kill(process):
@@ -66,20 +83,32 @@ def execute(words, limit=LIMIT, **how):
 def end(cases):
     """Tries cases, which are pairs of a name and a function, and ends the script with the line that tests/run reads.
 
-    A case fails if it raises an error, or returns a text that says why. It is left out if it returns False.
+    A case fails if it raises an error, or returns a text that says why. It is skipped if it raises `Skipped`.
     """
-    passed = failed = 0
+    passed = failed = skipped = 0
     for name, case in cases:
         try:
             why = case()
+        except Skipped as reason:
+            print(f"skipped: {' '.join(name.split())}: {reason}", flush=True)
+            skipped += 1
+            continue
         except Exception as error:  # noqa: BLE001
             why = repr(error)
-        said = "left out, as something is missing" if why is False else f"FAILED: {why}" if why else "as it should be"
-        print(f"{name}: {said}", flush=True)
+        print(f"{name}: FAILED: {why}" if why else f"{name}: as it should be", flush=True)
         failed += bool(why)
         passed += not why
-    print(f"{passed} passed, {failed} failed")
+    print(f"{passed} passed, {failed} failed, {skipped} skipped")
     sys.exit(1 if failed else 0)
+
+
+def skip_all(why):
+    """Ends a script of which nothing can run here. It takes what has the script run."""
+
+    def case():
+        raise Skipped(why)
+
+    end([(os.path.relpath(os.path.realpath(sys.argv[0]), ROOT), case)])
 
 
 def check_options(name, said):
