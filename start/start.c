@@ -55,7 +55,7 @@ enum { COUNT = sizeof SIGNALS / sizeof *SIGNALS };
 static struct sigaction actions[COUNT];
 
 /* Whether the terminal hides what is typed, and the modes that the terminal had before. */
-static bool is_hidden;
+static volatile sig_atomic_t is_hidden;
 static struct termios modes;
 
 /* Has the terminal hide what is typed. */
@@ -67,6 +67,16 @@ static void hide(void)
     tcsetattr(STDIN_FILENO, TCSADRAIN, &hidden);
 }
 
+/* Whether the terminal is for this command now. While a shell has it in the background, the shell sets the terminal's modes, and a
+ * change by this command would stop the command. */
+static bool is_in_foreground(void)
+{
+    pid_t foreground = tcgetpgrp(STDIN_FILENO);
+
+    /* (-1: it is another session's terminal, or none) */
+    return foreground == -1 || foreground == getpgrp();
+}
+
 /* The terminal shows what is typed before a signal ends or stops the command, and hides it again after a stop. */
 static void take_signal(int number)
 {
@@ -75,12 +85,14 @@ static void take_signal(int number)
     int error = errno;
 
     if (number != SIGCONT) {
-        tcsetattr(STDIN_FILENO, TCSADRAIN, &modes);
+        if (is_in_foreground())
+            tcsetattr(STDIN_FILENO, TCSADRAIN, &modes);
         sigaction(number, &usual, &own);
         raise(number);
         sigaction(number, &own, NULL);
     }
-    hide();
+    if (is_hidden && is_in_foreground())
+        hide();
     errno = error;
 }
 
@@ -91,7 +103,8 @@ static void begin_hiding(void)
     const struct sigaction taking = {.sa_handler = take_signal, .sa_flags = SA_NODEFER | SA_RESTART};
     int i;
 
-    if (is_hidden || tcgetattr(STDIN_FILENO, &modes) != 0)
+    /* (tcdrain stops a command in the background, whose terminal has the modes of a shell, until it is in the foreground) */
+    if (is_hidden || tcdrain(STDIN_FILENO) != 0 || tcgetattr(STDIN_FILENO, &modes) != 0)
         return;
     is_hidden = true;
     for (i = 0; i < COUNT; i++) {
@@ -110,10 +123,11 @@ static void end_hiding(void)
 
     if (!is_hidden)
         return;
+    /* (first, so that a signal from now on does not hide it again) */
+    is_hidden = false;
     tcsetattr(STDIN_FILENO, TCSADRAIN, &modes);
     for (i = 0; i < COUNT; i++)
         sigaction(SIGNALS[i], &actions[i], NULL);
-    is_hidden = false;
     errno = error;
 }
 

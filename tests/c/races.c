@@ -3,6 +3,7 @@
  * library. ThreadSanitizer does not see into the crate, so each call of the crate says there what it reads and writes, and
  * is held against the order that the crate asks for. Prints what fails, and last 'N passed, M failed'.
  */
+#define _GNU_SOURCE
 #define argon2_c_begin watched_begin
 #define argon2_c_segment watched_segment
 #define argon2_c_finish watched_finish
