@@ -4,168 +4,25 @@
  * gets memory, copies what overlaps, calls the callbacks, wipes, and holds constant texts.
  */
 #define _GNU_SOURCE
-#include "argon2.h"
+#include "private.h"
 
-#include <errno.h>
-#include <stdbool.h>
 #include <stdlib.h>
 #include <string.h>
-#include <sys/mman.h>
-
-/* ---- what the crate exports: a slice is a pointer, never null, and a length */
-
-_Static_assert(sizeof(size_t) == 8, "the crate's lengths have 64 bits");
-
-typedef const uint8_t *bytes;
-
-typedef struct {
-    uint64_t words[128];
-} block;
-
-struct request {
-    uint32_t algorithm, version, m_cost, t_cost, lanes, threads;
-    bool lacks_output, lacks_pwd, lacks_salt, lacks_secret, lacks_associated, has_allocate, has_free;
-};
-
-int32_t argon2_c_refusal(const struct request *, size_t output, size_t pwd, size_t salt, size_t secret,
-    size_t associated);
-int32_t argon2_c_hash(const struct request *, bytes pwd, size_t, bytes salt, size_t, bytes secret, size_t,
-    bytes associated, size_t, block *memory, size_t, uint8_t *out, size_t);
-int32_t argon2_c_length_refusal(size_t output, size_t pwd, size_t salt);
-int32_t argon2_c_compare(bytes, size_t, bytes, size_t);
-int32_t argon2_c_encode(const struct request *, bytes salt, size_t, bytes tag, size_t, uint8_t *out, size_t);
-size_t argon2_c_encoded_length(uint32_t algorithm, uint32_t m_cost, uint32_t t_cost, uint32_t lanes,
-    uint32_t salt, uint32_t tag);
-/* What a text says; its salt and its tag are at the front of the room that was lent for it. */
-struct shown {
-    uint32_t version, m_cost, t_cost, lanes;
-    size_t salt, tag; /* lengths */
-};
-
-int32_t argon2_c_decode(uint32_t algorithm, bool has_text, bytes text, size_t, size_t pwd, bool lacks_pwd, struct shown *,
-    uint8_t *room, size_t);
-
-/* A hash by parts, which threads.c puts together. */
-struct place {
-    uint32_t pass, slice, lane;
-};
-
-int32_t argon2_c_begin(const struct request *, bytes pwd, size_t, bytes salt, size_t, bytes secret, size_t,
-    bytes associated, size_t, size_t output, block *slice, size_t);
-int32_t argon2_c_segment(const struct request *, bytes secret, size_t, bytes associated, size_t, const block *before,
-    size_t, block *own, size_t, const block *after, size_t, const struct place *);
-int32_t argon2_c_finish(const struct request *, const block *last, size_t, uint8_t *out, size_t);
-
-/* Stands for a null pointer, with length 0. */
-static _Alignas(block) uint8_t nothing[1];
-
-static uint8_t *some(const void *at) { return at ? (uint8_t *)at : nothing; }
-static size_t length(const void *at, size_t n) { return at ? n : 0; }
-
-/* The inputs of a context of which nothing is refused: what is not there has length 0. */
-#define SECRET_AND_DATA(c) some((c)->secret), (c)->secretlen, some((c)->ad), (c)->adlen
-#define INPUTS(c) some((c)->pwd), (c)->pwdlen, some((c)->salt), (c)->saltlen, SECRET_AND_DATA(c)
-
-/* ---- wiping */
-
-int FLAG_clear_internal_memory = 1;
-
-/* Clears the registers that a call may change, if the compiler can: vector registers may have a part of a tag. */
-#if __has_attribute(zero_call_used_regs)
-__attribute__((noinline, zero_call_used_regs("all")))
-#endif
-static void clear_known_registers(void) {
-    __asm__ volatile("");
-}
-
-#ifdef __x86_64__
-/* Clears those that only AVX-512 has, of which compilers know nothing here. glibc copies by them. */
-__attribute__((noinline, target("avx512f"))) static void clear_further_registers(void) {
-    __asm__ volatile(
-        ".irp n, 16, 17, 18, 19, 20, 21, 22, 23, 24, 25, 26, 27, 28, 29, 30, 31\n\t"
-        "vpxord %%zmm\\n, %%zmm\\n, %%zmm\\n\n\t"
-        ".endr"
-        ::: "xmm16", "xmm17", "xmm18", "xmm19", "xmm20", "xmm21", "xmm22", "xmm23", "xmm24", "xmm25", "xmm26", "xmm27", "xmm28",
-        "xmm29", "xmm30", "xmm31");
-}
-#endif
-
-static void clear_registers(void) {
-#ifdef __x86_64__
-    if (__builtin_cpu_supports("avx512f")) clear_further_registers();
-#endif
-    clear_known_registers();
-}
-
-/* Registers first: the loader can save them on the stack when explicit_bzero is called for the first time. */
-static void wipe(void *at, size_t n) {
-    if (!FLAG_clear_internal_memory) return;
-    clear_registers();
-    explicit_bzero(at, n);
-}
-
-static void wipe_and_free(uint8_t *at, size_t n) {
-    wipe(at, n);
-    free(at);
-}
-
-/* Wipes what the crate's functions left on the stack, of which they use some 13 KiB. */
-static __attribute__((noinline)) void wipe_stack(void) {
-    uint8_t below[20 << 10];
-    wipe(below, sizeof below);
-}
-
-/* ---- memory */
-
-enum { LINES = 128, HUGE_PAGE = 2 << 20, LARGE = 4 << 20, MAPPED = 32 << 20 };
-
-/* Large memory is in huge pages, which saves most page faults; without huge pages nothing is lost. Afterwards what the program
- * puts there is in small pages, so that it does not take more memory than it uses. A refusal is no error. */
-static void advise(block *blocks, size_t n, int advice) {
-    const int error = errno;
-    const size_t whole = n * sizeof *blocks, before = -(uintptr_t)blocks % HUGE_PAGE; /* the bytes up to the first huge page */
-    if (whole >= LARGE) (void)madvise((uint8_t *)blocks + before, (whole - before) / HUGE_PAGE * HUGE_PAGE, advice);
-    errno = error;
-}
-
-/* The blocks of a hash, which begin on a line of the cache. In front of them is the address that malloc gave: a program may
- * define malloc and free itself, and no memalign. Below 32 MiB malloc gives the same memory to the next hash, without a
- * fault. From there on it maps memory anew for each hash, so the blocks begin with a huge page. */
-static block *new_blocks(size_t n) {
-    const size_t whole = n * sizeof(block), multiple = whole < MAPPED ? LINES : HUGE_PAGE;
-    uint8_t *const given = malloc(whole + multiple + sizeof given), *at;
-    if (!given) return NULL;
-    at = given + sizeof given;
-    at += -(uintptr_t)at % multiple;
-    memcpy(at - sizeof given, &given, sizeof given);
-    advise((block *)at, n, MADV_HUGEPAGE);
-    return (block *)at;
-}
-
-static void free_blocks(block *blocks, size_t n) {
-    uint8_t *given, *const at = (uint8_t *)blocks - sizeof given;
-    advise(blocks, n, MADV_NOHUGEPAGE);
-    memcpy(&given, at, sizeof given);
-    wipe(at, sizeof given);
-    free(given);
-}
 
 /* ---- hashing */
 
-#include "threads.c"
-
 /* Whether two ranges have a byte in common. */
-static bool meet(const void *a, size_t n, const void *b, size_t m) {
+bool meet(const void *a, size_t n, const void *b, size_t m) {
     return a && b && n && m && ((uintptr_t)a - (uintptr_t)b < m || (uintptr_t)b - (uintptr_t)a < n);
 }
 
 /* Whether a range has a byte in common with an input. */
-static bool meets_input(const argon2_context *c, const void *at, size_t n) {
+bool meets_input(const argon2_context *c, const void *at, size_t n) {
     return meet(at, n, c->pwd, c->pwdlen) || meet(at, n, c->salt, c->saltlen)
         || meet(at, n, c->secret, c->secretlen) || meet(at, n, c->ad, c->adlen);
 }
 
-static struct request requested(const argon2_context *c, argon2_type type) {
+struct request requested(const argon2_context *c, argon2_type type) {
     return (struct request){
         .algorithm = type, .version = c->version,
         .m_cost = c->m_cost, .t_cost = c->t_cost, .lanes = c->lanes, .threads = c->threads,
@@ -183,7 +40,7 @@ static int refusal(const argon2_context *c, argon2_type type) {
 
 /* Hashes as the context says, of which nothing is refused, on `memory`, into `out`, which has the context's length and
  * lies apart from all inputs and from the memory. */
-static int hash_on(const argon2_context *c, argon2_type type, uint8_t *out, block *memory, bool wipes) {
+int hash_on(const argon2_context *c, argon2_type type, uint8_t *out, block *memory, bool wipes) {
     const struct request request = requested(c, type);
     const uint32_t workers = worker_count(c);
     const size_t n = block_count(c);
@@ -199,7 +56,7 @@ static int hash_on(const argon2_context *c, argon2_type type, uint8_t *out, bloc
 }
 
 /* Hashes so on memory of malloc's. */
-static int hash_into(const argon2_context *c, argon2_type type, uint8_t *out) {
+int hash_into(const argon2_context *c, argon2_type type, uint8_t *out) {
     const size_t n = block_count(c);
     block *const memory = new_blocks(n);
     int answer;
@@ -375,7 +232,3 @@ const char *argon2_error_message(int code) {
     };
     return code <= 0 && code >= ARGON2_VERIFY_MISMATCH ? texts[-code] : "Unknown error code";
 }
-
-/* ---- texts with a secret and within a bound */
-
-#include "argon2_phc.c"

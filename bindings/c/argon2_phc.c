@@ -1,45 +1,17 @@
 /*
- * argon2_phc.h over the module phc of the crate argon2_c; argon2.c includes this. The crate reads and writes texts, decides what
+ * argon2_phc.h over the module phc of the crate argon2_c. The crate reads and writes texts, decides what
  * is refused, and verifies. The C reads structures, finds null pointers and overlap, draws salts, and lends memory.
  */
-#include "argon2_phc.h"
+#define _GNU_SOURCE
+#include "private.h"
+
+#include <errno.h>
+#include <string.h>
 #include <sys/random.h>
-
-/* ---- what the crate exports for this */
-
-struct phc_bound {
-    uint32_t m_cost, t_cost, p_cost, min_output, max_output;
-};
-
-/* As the members of argon2p_shown behind its size. */
-struct phc_shown {
-    uint32_t name_len, has_version, text_version, params_at, params_len, salt_len, output_len;
-    uint32_t algorithm, version, m_cost, t_cost, p_cost, keyid_len, associated_len;
-    uint8_t salt[ARGON2P_MAX_SALT], output[ARGON2P_MAX_OUTPUT], keyid[ARGON2P_MAX_KEYID], associated[ARGON2P_MAX_DATA];
-};
 
 _Static_assert(sizeof(argon2p_shown) == offsetof(argon2p_shown, name_len) + sizeof(struct phc_shown)
     && offsetof(argon2p_shown, data) == offsetof(argon2p_shown, name_len) + offsetof(struct phc_shown, associated), "the same layout");
 _Static_assert(sizeof(argon2p_block) == sizeof(block), "the same blocks");
-
-struct phc_lengths {
-    size_t keyid, associated, secret, output;
-    bool has_output;
-};
-
-int32_t argon2_c_params_refusal(const struct request *, const struct phc_lengths *);
-int32_t argon2_c_text_refusal(const struct request *, const struct phc_lengths *, size_t salt, size_t hash, size_t pwd);
-int32_t argon2_c_tag_refusal(const struct request *, const struct phc_lengths *, size_t out, size_t pwd, size_t salt);
-
-int32_t argon2_c_phc_encode(const struct request *, bytes keyid, size_t, bytes data, size_t, bytes salt, size_t,
-    bytes hash, size_t, uint8_t *out, size_t);
-int32_t argon2_c_phc_show(bytes text, size_t, struct phc_shown *);
-int32_t argon2_c_phc_renewal(const struct request *, size_t output, bytes keyid, size_t, bytes data, size_t,
-    bytes text, size_t);
-int32_t argon2_c_phc_admit(const struct phc_bound *, bytes text, size_t, size_t pwd, size_t secret, size_t old_secret,
-    struct phc_shown *);
-int32_t argon2_c_fill(const struct request *, bytes pwd, size_t, bytes salt, size_t, bytes secret, size_t,
-    bytes associated, size_t, block *memory, size_t);
 
 /* ---- structures of the caller */
 

@@ -1,5 +1,5 @@
 /*
- * Lanes filled by several threads; argon2.c includes this. The memory is laid out slice by slice, in each slice lane by
+ * Lanes filled by several threads. The memory is laid out slice by slice, in each slice lane by
  * lane, so that a segment, the slices before its own and those behind it are three ranges that lie apart.
  *
  * The tag is that of the law `segments_apart` under these conditions, which this C keeps and no proof sees. With S = m / (4 p):
@@ -14,6 +14,10 @@
  *   returns.
  * - Each call's answer is looked at, and if one is not 0 no tag is given.
  */
+#define _GNU_SOURCE
+#include "private.h"
+
+#include <errno.h>
 #include <pthread.h>
 #include <sched.h>
 #include <signal.h>
@@ -44,13 +48,8 @@ struct filling {
     int answer; /* the first that is not 0 */
 };
 
-/* How many blocks a hash uses, of those that it may. */
-static size_t block_count(const argon2_context *c) {
-    return (size_t)(c->m_cost / (4 * c->lanes)) * (4 * c->lanes);
-}
-
 /* How many threads make a hash, with the caller's. */
-static uint32_t worker_count(const argon2_context *c) {
+uint32_t worker_count(const argon2_context *c) {
     const uint32_t useful = c->threads < c->lanes ? c->threads : c->lanes;
     const int error = errno;
     uint32_t usable = CPU_SETSIZE;
@@ -181,8 +180,8 @@ static uint32_t start_threads(struct filling *f, pthread_t *threads) {
 }
 
 /* Hashes as `argon2_c_hash` does, with so many threads. They have ended when this returns. */
-static __attribute__((noinline)) int hash_in_threads(const argon2_context *c, const struct request *request, uint8_t *out,
-    block *memory, bool wipes, uint32_t workers) {
+int hash_in_threads(const argon2_context *c, const struct request *request, uint8_t *out, block *memory, bool wipes,
+    uint32_t workers) {
     const size_t width = block_count(c) / 4;
     block *const last = memory + 3 * width;
     struct filling f = {

@@ -1,13 +1,14 @@
 /*
- * Hashes whose lanes several threads fill, for tests/c/check-races, under ThreadSanitizer or helgrind, with the C of the
- * library. ThreadSanitizer does not see into the crate, so each call of the crate says there what it reads and writes, and
- * is held against the order that the crate asks for. Prints what fails, and last 'N passed, M failed'.
+ * Hashes whose lanes several threads fill, for tests/c/check-races, under ThreadSanitizer or helgrind. The C of the library is
+ * linked with this, and its calls of the crate come here. ThreadSanitizer does not see into the crate, so each call of the crate
+ * says here what it reads and writes, and is held against the order that the crate asks for. Prints what fails, and last
+ * 'N passed, M failed'.
  */
 #define _GNU_SOURCE
 #define argon2_c_begin watched_begin
 #define argon2_c_segment watched_segment
 #define argon2_c_finish watched_finish
-#include "argon2.c"
+#include "private.h"
 #undef argon2_c_begin
 #undef argon2_c_segment
 #undef argon2_c_finish

@@ -1,0 +1,99 @@
+/*
+ * SPDX-FileCopyrightText: 2026 The maintainers of this repository
+ * SPDX-License-Identifier: MIT OR Apache-2.0
+ *
+ * The memory of a hash, and how secrets are wiped from memory, from the stack and from registers.
+ */
+#define _GNU_SOURCE
+#include "private.h"
+
+#include <errno.h>
+#include <stdlib.h>
+#include <string.h>
+#include <sys/mman.h>
+
+/* ---- wiping */
+
+_Alignas(block) uint8_t nothing[1];
+
+int FLAG_clear_internal_memory = 1;
+
+/* Clears the registers that a call may change, if the compiler can: vector registers may have a part of a tag. */
+#if __has_attribute(zero_call_used_regs)
+__attribute__((noinline, zero_call_used_regs("all")))
+#endif
+static void clear_known_registers(void) {
+    __asm__ volatile("");
+}
+
+#ifdef __x86_64__
+/* Clears those that only AVX-512 has, of which compilers know nothing here. glibc copies by them. */
+__attribute__((noinline, target("avx512f"))) static void clear_further_registers(void) {
+    __asm__ volatile(
+        ".irp n, 16, 17, 18, 19, 20, 21, 22, 23, 24, 25, 26, 27, 28, 29, 30, 31\n\t"
+        "vpxord %%zmm\\n, %%zmm\\n, %%zmm\\n\n\t"
+        ".endr"
+        ::: "xmm16", "xmm17", "xmm18", "xmm19", "xmm20", "xmm21", "xmm22", "xmm23", "xmm24", "xmm25", "xmm26", "xmm27", "xmm28",
+        "xmm29", "xmm30", "xmm31");
+}
+#endif
+
+static void clear_registers(void) {
+#ifdef __x86_64__
+    if (__builtin_cpu_supports("avx512f")) clear_further_registers();
+#endif
+    clear_known_registers();
+}
+
+/* Wipes bytes, and the registers that may have a part of them. Registers first: the loader can save them on the stack when explicit_bzero is called for the first time. */
+void wipe(void *at, size_t n) {
+    if (!FLAG_clear_internal_memory) return;
+    clear_registers();
+    explicit_bzero(at, n);
+}
+
+void wipe_and_free(uint8_t *at, size_t n) {
+    wipe(at, n);
+    free(at);
+}
+
+/* Wipes what the crate's functions left on the stack, of which they use some 13 KiB. */
+__attribute__((noinline)) void wipe_stack(void) {
+    uint8_t below[20 << 10];
+    wipe(below, sizeof below);
+}
+
+/* ---- memory */
+
+enum { LINES = 128, HUGE_PAGE = 2 << 20, LARGE = 4 << 20, MAPPED = 32 << 20 };
+
+/* Large memory is in huge pages, which saves most page faults; without huge pages nothing is lost. Afterwards what the program
+ * puts there is in small pages, so that it does not take more memory than it uses. A refusal is no error. */
+static void advise(block *blocks, size_t n, int advice) {
+    const int error = errno;
+    const size_t whole = n * sizeof *blocks, before = -(uintptr_t)blocks % HUGE_PAGE; /* the bytes up to the first huge page */
+    if (whole >= LARGE) (void)madvise((uint8_t *)blocks + before, (whole - before) / HUGE_PAGE * HUGE_PAGE, advice);
+    errno = error;
+}
+
+/* The blocks of a hash, which begin on a line of the cache. In front of them is the address that malloc gave: a program may
+ * define malloc and free itself, and no memalign. Below 32 MiB malloc gives the same memory to the next hash, without a
+ * fault. From there on it maps memory anew for each hash, so the blocks begin with a huge page. */
+block *new_blocks(size_t n) {
+    const size_t whole = n * sizeof(block), multiple = whole < MAPPED ? LINES : HUGE_PAGE;
+    uint8_t *const given = malloc(whole + multiple + sizeof given), *at;
+    if (!given) return NULL;
+    at = given + sizeof given;
+    at += -(uintptr_t)at % multiple;
+    memcpy(at - sizeof given, &given, sizeof given);
+    advise((block *)at, n, MADV_HUGEPAGE);
+    return (block *)at;
+}
+
+void free_blocks(block *blocks, size_t n) {
+    uint8_t *given, *const at = (uint8_t *)blocks - sizeof given;
+    advise(blocks, n, MADV_NOHUGEPAGE);
+    memcpy(&given, at, sizeof given);
+    wipe(at, sizeof given);
+    free(given);
+}
