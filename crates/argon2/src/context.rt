@@ -1,6 +1,6 @@
 //! Hashing by Argon2 (RFC 9106, section 3), on memory that the caller lends or that is asked for.
 
-ghost use Rattle.std.specs.Prelude.{◌≡◌, ◌≤◌, length};
+ghost use Rattle.std.specs.Prelude.{◌≡◌, ◌≤◌, ⊤, length};
 ghost use Rattle.argon2.specs.Refusals.{max_len};
 
 use crate::algorithm::Algorithm;
@@ -8,7 +8,7 @@ use crate::params::Params;
 use crate::version::Version;
 use argon2_base::block::{Block, Words, Work};
 use argon2_base::error::{Error, Result};
-use std::alloc::Allocator;
+use std::alloc::{AllocError, Allocator};
 use std::fmt;
 use std::marker::Model;
 
@@ -56,7 +56,7 @@ struct Secret<'key> {
 
 /// What passwords are hashed under: an algorithm, its version, parameters, and a secret if there
 /// is one.
-#[derive(Clone, Drop)]
+#[derive(Drop)]
 pub struct Argon2<'key> {
     algorithm: Algorithm,
     version: Version,
@@ -72,6 +72,19 @@ impl<'key> Model for Argon2<'key> {
     ghost use Rattle.argon2.specs.Argon2.{target_inside};
 
     ghost view = { target_inside };
+}
+
+/// A clone makes hashes under the same settings and the same secret. `clone` never fails.
+impl<'key> Clone for Argon2<'key> {
+    ghost use Rattle.argon2.specs.Argon2.{target_of};
+
+    ghost is_clone = { λ argon2 copy. target_of copy ≡ target_of argon2 };
+
+    ghost is_infallible = { λ _. ⊤ };
+
+    fn clone(&self) -> std::result::Result<Argon2<'key>, AllocError> {
+        Ok(self.with_settings(self.algorithm, self.version, self.params))
+    }
 }
 
 impl<'key> Argon2<'key> {
