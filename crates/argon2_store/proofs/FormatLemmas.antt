@@ -4,6 +4,7 @@ use Rattle.argon2_store.proofs.Imports.{Image, Recovers, PageMap, HasVersion, Is
 use Rattle.std.proofs.Common.{get_or-take, take-take, None, Option, option_map}
 use Rattle.std.proofs.Math.Seq.{take-length}
 use Rattle.sqlite_disk.specs.Disk.{Holds}
+use Rattle.sqlite_disk.specs.declared.Disk.{Ghosts}
 use Rattle.sqlite_pool.specs.Header.{user_version}
 use Rattle.sqlite_pool.specs.Stored.{trimmed}
 use Rattle.sqlite_wal.proofs.PartLemmas.{part-part, part_within}
@@ -109,17 +110,25 @@ known pages head format is named found = (
 )
 
 -- a log of files that recover is refused only if it is too long, or for the disk or memory
-pub refused : (old new : ℕ) (log : List ℕ) (k : ℕ) → Replays 4096 log k → (e : LogError)
-    → HasCause old new (RefusesLog 4096 log) e
-    → (n : ℕ) → IsOfFormat n (log_error e)
-refused old new log k replays (Io e) cause n = tt
-refused old new log k replays OutOfMemory cause n = tt
-refused old new log k replays Closed (inl (is, none)) n = absurd cc
-refused old new log k replays Closed (inr (is, none)) n = absurd cc
-refused old new log k replays NoSuchPage (inl (is, none)) n = absurd cc
-refused old new log k replays NoSuchPage (inr (is, none)) n = absurd cc
-refused old new log k replays Full cause n = tt
-refused old new log k replays Corrupt (inl (is, none)) n = absurd (none k replays)
-refused old new log k replays Corrupt (inr (is, none)) n = absurd cc
-refused old new log k replays Exists (inl (is, none)) n = absurd cc
-refused old new log k replays Exists (inr (is, none)) n = absurd cc
+pub refused : {D : Type 0} (g : Ghosts D) (old new : D × D) (k : ℕ) → Replays 4096 (g.seen old.0) k → (e : LogError)
+    → HasCause (g.faults old.0) (g.faults new.0) (RefusesLog 4096 (g.seen old.0)) e
+    → (n : ℕ) → IsOfFormat g old new n (log_error e)
+refused g old new k replays (Io e) cause n = inl cause
+refused g old new k replays OutOfMemory cause n = tt
+refused g old new k replays Closed (inl (is, none)) n = absurd cc
+refused g old new k replays Closed (inr (is, none)) n = absurd cc
+refused g old new k replays NoSuchPage (inl (is, none)) n = absurd cc
+refused g old new k replays NoSuchPage (inr (is, none)) n = absurd cc
+refused g old new k replays Full (inl (is, none)) n = absurd cc
+refused g old new k replays Full (inr (is, long)) n = long
+refused g old new k replays Corrupt (inl (is, none)) n = absurd (none k replays)
+refused g old new k replays Corrupt (inr (is, none)) n = absurd cc
+refused g old new k replays Exists (inl (is, none)) n = absurd cc
+refused g old new k replays Exists (inr (is, none)) n = absurd cc
+
+-- a frame that recovery takes lies within the log
+pub within : (log numbers : List ℕ) → AreFramesOf 4096 log numbers → (i : ℕ) → i < length numbers
+    → 32 + (i + 1) * 4120 ≤ length log
+unfolding frames_len
+within log numbers (inl (ignored, none), each) i low = absurd (omega (arith, none, low))
+within log numbers (inr (taken, last), each) i low = let it = (taken.valid i low).within in omega (arith, it)

@@ -5,6 +5,7 @@ use Rattle.argon2_store.proofs.Imports.{clean_of, no_doubt, catalog_tree, Trees,
 use Rattle.argon2_store.proofs.Imports.{state, view, catalog_rows, files_of, image, state_of, wanted_by, FileStore, AreUnharmed, IsFoundIn, IsTableOf, IsUnstarted}
 use Rattle.argon2_store.proofs.Imports.{MayHave, StandsFor, account, IsUnwritten, recovers, AreClean, OnlyReads, IsOfDatabase, HasOtherFormat, HasVersion, IsDamaged, IsOfDamage, IsOfFormat, IsOfPair, ◌≢◌, PageMap, Recovers}
 use Rattle.sqlite_wal.specs.Reads.{OnlyReadsBoth}
+use Rattle.argon2_store.specs.declared.error.OpenError.TheVariants as no
 use Rattle.sqlite_disk.specs.declared.Disk.{Ghosts}
 use Rattle.sqlite_pool.specs.Pool.{files as pool_files, state as pool_state}
 use Rattle.sqlite_store.proofs.BuildLemmas.{new_is_empty}
@@ -205,7 +206,7 @@ unharmed_by_reads old it end new stay quiet opened closed clean left may =
 -- an error of the database says nothing of the names
 pub of_database : {D : Type 0} {g : Ghosts D} {old new : D × D} (e : OpenError) → IsOfDatabase e
     → (AreClean g new.0 new.1 → IsDamaged (g.seen old.0) → IsOfDamage g old.0 new.0 e)
-    → (AreClean g new.0 new.1 → (n : ℕ) → HasOtherFormat (seen_image g old.0 old.1) n → IsOfFormat n e)
+    → (AreClean g new.0 new.1 → (n : ℕ) → HasOtherFormat (seen_image g old.0 old.1) n → IsOfFormat g old new n e)
     → AreUnharmed g old new → IsOfPair g old new e
 of_database e of damage other unharmed = record {
   kind = inr (inr (inr of));
@@ -222,3 +223,10 @@ pub no_other : (held : Image) (format : ℕ) → format ≡ 0 → ((pages : Page
     → (format ≢ 0 → HasVersion pages format) × ((m : ℕ) → m ≢ 0 → HasVersion pages m → format ≡ m))
     → (n : ℕ) → ¬ HasOtherFormat held n
 no_other held format is found n has = has.0 (sym ((found has.1.0 has.1.1).1 n has.0 has.1.2) ∙ is)
+
+-- the log was read before, without a fault
+pub format_then : {D : Type 0} (g : Ghosts D) (log mid db : D) (new : D × D) (n : ℕ) (e : OpenError)
+    → g.faults mid ≡ g.faults log → g.seen mid ≡ g.seen log → IsOfFormat g (mid, db) new n e → IsOfFormat g (log, db) new n e
+format_then g log mid db new n no.Io faults seen is = rw faults at is
+format_then g log mid db new n no.Full faults seen is = rw seen at is
+format_then g log mid db new n _ faults seen is = is

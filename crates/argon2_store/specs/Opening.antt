@@ -15,7 +15,7 @@ pub use Rattle.sqlite_wal.specs.Files.{outcomes, seen_image}
 use Rattle.sqlite_wal.specs.PageSize.{IsPageSize}
 pub use Rattle.sqlite_wal.specs.Reads.{AreClean, OnlyReads}
 pub use Rattle.sqlite_wal.specs.Format.{IsSigned}
-pub use Rattle.sqlite_wal.specs.Recovery.{Image, header}
+pub use Rattle.sqlite_wal.specs.Recovery.{Image, frame_at, header}
 use Rattle.argon2_rows.specs.Names.{Texts}
 use Rattle.argon2_rows.specs.Rows.{AreLines, AreTexts, rows_of}
 pub use Rattle.argon2_rows.specs.Table.{account}
@@ -113,15 +113,23 @@ AreUnharmed g old new = AreClean g new.0 new.1 → (left : Image) → outcomes g
 abbrev pub IsOfDamage : {D : Type 0} → Ghosts D → D → D → OpenError → Type 0
 IsOfDamage g old new e = (e ≡ no.DamagedLog) ⊎ ((e ≡ no.Io) × MoreFaults (g.faults old) (g.faults new))
 
--- how an open of a database with this number fails: by the format, unless the log is damaged or too long, the disk fails or
--- memory runs out
-abbrev pub IsOfFormat : ℕ → OpenError → Type 0
-IsOfFormat n (no.Format m) = m ≡ n
-IsOfFormat n no.DamagedLog = ⊤
-IsOfFormat n no.OutOfMemory = ⊤
-IsOfFormat n no.Io = ⊤
-IsOfFormat n no.Full = ⊤
-IsOfFormat n _ = ⊥
+-- a call to the log or to the database file failed between these states of the two
+abbrev pub HaveFailed : {D : Type 0} → Ghosts D → D × D → D × D → Type 0
+HaveFailed g old new = MoreFaults (g.faults old.0) (g.faults new.0) ⊎ MoreFaults (g.faults old.1) (g.faults new.1)
+
+-- a log that has more frames of pages of 4096 bytes than an open takes, which are some 17 terabytes
+abbrev pub HasTooManyFrames : List ℕ → Type 0
+HasTooManyFrames log = frame_at 4096 0xffff_fffe ≤ length log
+
+-- How an open of a database with this number fails, which leaves these two files: by the format, unless the log is damaged or too
+-- long, the disk fails or memory runs out.
+abbrev pub IsOfFormat : {D : Type 0} → Ghosts D → D × D → D × D → ℕ → OpenError → Type 0
+IsOfFormat g old new n (no.Format m) = m ≡ n
+IsOfFormat g old new n no.DamagedLog = ⊤
+IsOfFormat g old new n no.OutOfMemory = ⊤
+IsOfFormat g old new n no.Io = HaveFailed g old new
+IsOfFormat g old new n no.Full = HasTooManyFrames (g.seen old.0)
+IsOfFormat g old new n _ = ⊥
 
 -- a crash leaves just what the two files hold
 abbrev pub AreSynced : {D : Type 0} → Ghosts D → D × D → Type 0
@@ -138,7 +146,7 @@ pub record IsOfPair {D : Type 0} (g : Ghosts D) (old new : D × D) (e : OpenErro
   pub damage : AreClean g new.0 new.1 → IsDamaged (g.seen old.0) → IsOfDamage g old.0 new.0 e
   pub format : (n : ℕ) → e ≡ no.Format n → OnlyReads g old.0 new.0 × OnlyReads g old.1 new.1 × (n ≢ 0)
       × (AreClean g new.0 new.1 → (pages : PageMap) → Recovers 4096 (seen_image g old.0 old.1) pages → HasVersion pages n)
-  pub other : AreClean g new.0 new.1 → (n : ℕ) → HasOtherFormat (seen_image g old.0 old.1) n → IsOfFormat n e
+  pub other : AreClean g new.0 new.1 → (n : ℕ) → HasOtherFormat (seen_image g old.0 old.1) n → IsOfFormat g old new n e
   pub unharmed : AreUnharmed g old new
 
 -- Opens that failed, the newest first, with the files that each found: the first found `before`, and each left files that stand

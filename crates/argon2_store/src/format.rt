@@ -51,7 +51,8 @@ fn probe_format<D: Disk>(alloc: Global, files: &mut Files<D>) -> Result<u32, Err
         Recovers 4096 (seen_image D.Disk files.old.log files.old.db) pages →
         (format ≢ 0 → HasVersion pages format) × ((n : ℕ) → n ≢ 0 → HasVersion pages n → format ≡ n)) }
     ensures error { IfErr result (λ e. AreClean D.Disk files.new.log files.new.db → (pages : PageMap) →
-        Recovers 4096 (seen_image D.Disk files.old.log files.old.db) pages → (n : ℕ) → IsOfFormat n (log_error e)) }
+        Recovers 4096 (seen_image D.Disk files.old.log files.old.db) pages → (n : ℕ) →
+        IsOfFormat D.Disk (files.old.log, files.old.db) (files.new.log, files.new.db) n (log_error e)) }
     ensures log { OnlyReads D.Disk files.old.log files.new.log }
     ensures db { OnlyReads D.Disk files.old.db files.new.db }
 {

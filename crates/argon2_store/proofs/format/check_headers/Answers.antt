@@ -1,12 +1,13 @@
 use Rattle.argon2_store.proofs.Imports.{arith, rules, inl, halves}
-use Rattle.argon2_store.proofs.OpenLemmas.{no_other, of_database, reads_both}
+use Rattle.argon2_store.proofs.OpenLemmas.{format_then, no_other, of_database, reads_both}
 use Rattle.argon2_store.proofs.format.check_headers.Goals as goal
 
 pub returns-in-Err-probe_format-clause-refused : goal.returns-in-Err-probe_format-clause-refused
 returns-in-Err-probe_format-clause-refused g c =
     of_database _ c.into.ensures.1 (λ clean damaged. search (arith, halves))
     (λ clean n has. rw c.into.ensures.0
-    (rw c.is_damaged.ensures.same.seen at (c.in-Err-probe_format.ensures.error clean) has.1.0 has.1.1 n))
+    (format_then g.D.Disk _ _ _ _ n _ c.in-Ok-false.ensures.faults c.is_damaged.ensures.same.seen
+    (rw c.is_damaged.ensures.same.seen at (c.in-Err-probe_format.ensures.error clean) has.1.0 has.1.1 n)))
     (λ clean left may. inl (
       c.is_damaged.ensures.same.crash left.log (c.probe_format.ensures.log.crash left.log may.0),
       c.probe_format.ensures.db.crash left.db may.1,
