@@ -1,8 +1,8 @@
 //! Names with passwords in a file.
 
-ghost use Rattle.std.specs.Prelude.{◌≡◌, ◌⊎◌, IsErr, IsTrue, OnErr};
+ghost use Rattle.std.specs.Prelude.{◌≡◌, ◌⊎◌, IsErr, IsTrue, Ok, OnErr};
 ghost use Rattle.argon2_accounts.specs.Accounts.{ChangesName, DrawsForLogin, GivesPassword, LogsNameIn, RelatesNames, Replaces, Stores, TellsOf, TellsOfRenewal};
-ghost use Rattle.argon2_accounts.specs.Accounts.{IsClosed, IsHonest, adding, database_of, after_salt, drawn_salt, policy_value, setting};
+ghost use Rattle.argon2_accounts.specs.Accounts.{IsClosed, IsHonest, Kept, adding, database_of, after_salt, drawn_salt, policy_value, setting};
 
 use crate::error::AccountError;
 use argon2::login::{Accepted, LoggedIn};
@@ -50,8 +50,8 @@ impl<'key, S: Store> Accounts<'key, S> {
 
     /// Verifies a password against the text of a name, and renews the text, as [`Policy::log_in`]. It
     /// returns [`Accepted::Rehashed`] once the file holds the fresh text, and [`Accepted::Kept`] if there is
-    /// no memory for a fresh text or it can't be written. Nothing is drawn but for a fresh text; then 16 bytes
-    /// are.
+    /// no memory for a fresh text or it can't be written; the file is then still open. Nothing is drawn except
+    /// for a fresh text; then 16 bytes are.
     ///
     /// # Errors
     /// The first of these that holds:
@@ -73,6 +73,8 @@ impl<'key, S: Store> Accounts<'key, S> {
         ensures drawn { DrawsForLogin result (R.stream rng.old) (R.stream rng.new) }
         ensures served { IsHonest S.Store (database_of self.new.file) → OnErr result
             (IsClosed self.new.file ⊎ (R.stream rng.new ≡ R.stream rng.old)) }
+        ensures kept { IsHonest S.Store (database_of self.new.file) → result ≡ Ok Kept →
+            ¬ IsClosed self.new.file }
     {
         let text = self.file.text_of(name)?;
         let stored = text.as_deref();
@@ -154,6 +156,7 @@ impl<S: Store> fmt::Debug for Accounts<'_, S> {
 fn after_renewal(renewed: Result<(), FileError>, closed: bool) -> Result<Accepted, AccountError>
     ensures tells { TellsOfRenewal result renewed }
     ensures closed { OnErr result (IsTrue closed) }
+    ensures kept { result ≡ Ok Kept → ¬ IsTrue closed }
 {
     match renewed {
         Ok(()) => Ok(Accepted::Rehashed),
