@@ -40,6 +40,11 @@ abbrev pub IsOfInput : Failure → Type 0
 IsOfInput Input = ⊤
 IsOfInput failure = IsOfMemory failure
 
+-- the input can't be read, standard error can't be written, or a request for memory was refused
+abbrev pub IsOfAsking : Failure → Type 0
+IsOfAsking Output = ⊤
+IsOfAsking failure = IsOfInput failure
+
 -- ---- what is printed
 
 -- the text of a failure

@@ -151,8 +151,8 @@ fn reply<R: Read>(alloc: Global, command: &Command<'_>, input: &mut R) -> Result
     }
 }
 
-// All that is left in `input`.
-fn read_all<R: Read>(alloc: Global, input: &mut R) -> Result<Vec<u8>, Failure>
+/// All that is left in `input`.
+pub(crate) fn read_all<R: Read>(alloc: Global, input: &mut R) -> Result<Vec<u8>, Failure>
     ensures ok { IfOk result (λ bytes. IfSome (R.remaining input.old)
         (λ message. bytes.items ≡ message)) }
     ensures err { IfErr result IsOfInput }
