@@ -1,3 +1,4 @@
+mod AskingLemmas
 mod LineLemmas
 mod Looks
 pub mod Common

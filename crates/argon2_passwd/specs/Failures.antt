@@ -1,5 +1,5 @@
 -- Why the program fails.
-use Rattle.std.specs.Prelude.{◌≡◌, ℕ, true, false, Bool, IsTrue, List, codes, if◌then◌else◌, Result, Ok, Err}
+use Rattle.std.specs.Prelude.{◌≡◌, ℕ, false, Bool, IsTrue, List, codes, if◌then◌else◌, Result, Ok, Err}
 use Rattle.std.specs.IoError.{error_kind}
 use Rattle.std.specs.Result.{result_map_both}
 use Rattle.std.specs.declared.io.Error.{Error as IoError}
@@ -14,7 +14,7 @@ use Rattle.argon2_passwd.specs.declared.command.Action.TheVariants.{OnFile}
 use Rattle.argon2_passwd.specs.declared.command.EditTask.TheVariants.{Change}
 use Rattle.argon2_passwd.specs.declared.command.Task.TheVariants.{Verify, Edit as Edits}
 pub use Rattle.argon2_passwd.specs.declared.failure.Failure.{Failure}
-pub use Rattle.argon2_passwd.specs.declared.failure.Failure.TheVariants.{NoPassword, LongPassword, EmptyPassword, Name, Params, Denied, Line, Passed, Unopened, File, BrokenLine, Output, Unread, Memory}
+pub use Rattle.argon2_passwd.specs.declared.failure.Failure.TheVariants.{NoPassword, LongPassword, EmptyPassword, Differing, Name, Params, Denied, Line, Passed, Unopened, File, BrokenLine, Output, Unread, Memory}
 pub use Rattle.argon2_store.specs.Errors.{is_refusal}
 pub use Rattle.argon2_store.specs.declared.error.FileError.{FileError}
 use Rattle.argon2_store.specs.declared.error.FileError.TheVariants as file
@@ -29,6 +29,7 @@ abbrev pub status_of : Failure → ℕ
 status_of NoPassword = 1
 status_of LongPassword = 1
 status_of EmptyPassword = 1
+status_of Differing = 1
 status_of (Name why) = 1
 status_of Params = 2
 status_of (Denied why) = if is_wrong why then 1 else 4

@@ -1,5 +1,6 @@
 pub mod Additions
 pub mod Answers
+pub mod Asking
 pub mod Failures
 pub mod Files
 pub mod Lines

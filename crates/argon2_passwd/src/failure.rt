@@ -56,6 +56,9 @@ pub enum Failure {
     /// A line for a new password is empty.
     #[error("a new password has 1 to 4096 bytes")]
     EmptyPassword,
+    /// A new password was typed twice, and not the same.
+    #[error("the two passwords differ")]
+    Differing,
     /// A new name may not be added.
     #[error(transparent)]
     Name(Flaw),
@@ -120,6 +123,7 @@ impl Failure {
             Failure::NoPassword
             | Failure::LongPassword
             | Failure::EmptyPassword
+            | Failure::Differing
             | Failure::Name(_)
             | Failure::Line(_, _) => 1,
             Failure::Params => 2,

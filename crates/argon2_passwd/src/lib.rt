@@ -1,6 +1,7 @@
 //! What `argon2-passwd` does, with any streams and any world outside it.
 #![tactic(auto)]
 
+pub mod asking;
 mod command;
 mod entries;
 mod failure;
