@@ -2,7 +2,7 @@
 
 use crate::history::History;
 use argon2_passwd::{Failure, IfAbsent, News, Outside, RowCheck, SecretKind};
-use argon2_store::{AccountFile, AccountsAt, OpenError};
+use argon2_store::{AccountFile, AccountsAt, OpenError, is_made, make_file};
 use sqlite_std_file::{FileFrom, Wary};
 use sqlite_store::FileStore;
 use sqlite_trees::error::StoreError;
@@ -60,31 +60,6 @@ impl<'a> Machine<'a> {
         }
     }
 
-    // Whether there is a file for accounts at a path, or none and the command makes it.
-    fn is_there(&self, path: &str, if_absent: IfAbsent) -> Result<bool, Failure>
-        ensures { IfErr result (λ failure. status_of failure ≡ 3) }
-    {
-        let why = match fs::metadata(self.rt, path) {
-            Ok(found) if found.is_dir() => "is a directory",
-            Ok(found) if !found.is_file() => "is no regular file",
-            Ok(found) if found.nlink() > 1 => "has a second name (a hard link)",
-            Ok(_) => return Ok(true),
-            Err(error)
-                if error.kind() == ErrorKind::NotFound && matches!(if_absent, IfAbsent::Make) => {
-                if fs::symlink_metadata(self.rt, path).is_err() {
-                    self.check_log_path(path)?;
-                    return Ok(false);
-                }
-                "is a link to a file that is not there"
-            }
-            Err(error) if error.kind() == ErrorKind::OutOfMemory => return Err(Failure::from(
-                AllocError,
-            )),
-            Err(error) => return Err(Failure::from(OpenError::Path(error))),
-        };
-        Err(Failure::Unfit(why))
-    }
-
     // The accounts in the file at a path. The rows that are not checked first are supposed to be sound.
     #[tactic(auto, using(argon2_store::proofs::NextOpenLemmas::empty_held))]
     fn open_accounts(&self, path: &str, rows: RowCheck) -> Result<AccountsAt<Wary>, Failure>
@@ -109,6 +84,11 @@ impl<'a> Machine<'a> {
             _ => Ok(()),
         }
     }
+}
+
+// Whether a path names a symbolic link.
+fn is_link(rt: &HostRuntime, path: &str) -> bool {
+    fs::symlink_metadata(rt, path).is_ok_and(|found| found.is_symlink())
 }
 
 impl Outside for Machine<'_> {
@@ -165,8 +145,30 @@ impl Outside for Machine<'_> {
     }
 
     fn check_path(&self, path: &str, if_absent: IfAbsent) -> Result<(), Failure> {
-        self.is_there(path, if_absent)?;
-        Ok(())
+        let makes = matches!(if_absent, IfAbsent::Make);
+        let why = match fs::metadata(self.rt, path) {
+            Ok(found) if found.is_dir() => "is a directory",
+            Ok(found) if !found.is_file() => "is no regular file",
+            Ok(found) if found.nlink() > 1 => "has a second name (a hard link)",
+            Ok(_) => {
+                if makes || is_made(self.rt, path)? {
+                    return Ok(());
+                }
+                "has no accounts yet"
+            }
+            Err(error) if error.kind() == ErrorKind::NotFound && makes => {
+                // Another process may make the file meanwhile.
+                if !is_link(self.rt, path) {
+                    return self.check_log_path(path);
+                }
+                "is a link to a file that is not there"
+            }
+            Err(error) if error.kind() == ErrorKind::OutOfMemory => return Err(Failure::from(
+                AllocError,
+            )),
+            Err(error) => return Err(Failure::from(OpenError::Path(error))),
+        };
+        Err(Failure::Unfit(why))
     }
 
     // Others may change what is at the path while a password is hashed, so each open looks again.
@@ -176,9 +178,13 @@ impl Outside for Machine<'_> {
         if_absent: IfAbsent,
         rows: RowCheck,
     ) -> Result<AccountsAt<Wary>, Failure> {
-        let is_there = self.is_there(path, if_absent)?;
+        self.check_path(path, if_absent)?;
+        let has_made = match if_absent {
+            IfAbsent::Make => make_file(self.rt, path)?,
+            IfAbsent::Fail => false,
+        };
+        self.news.is_made |= has_made;
         let accounts = self.open_accounts(path, rows)?;
-        self.news.is_made |= !is_there;
         self.paused = None;
         self.paths = self.paths.with(path.as_bytes());
         Ok(accounts)

@@ -36,4 +36,5 @@ pub use account_file::{AccountFile, AccountsAt};
 pub use argon2_rows::{StoredText, View};
 pub use edit::Edit;
 pub use error::{FileError, LineError, OpenError};
+pub use opening::{is_made, make_file};
 pub use runs::{account_file_runs, failed_open, next_run};

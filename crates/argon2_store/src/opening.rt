@@ -300,20 +300,21 @@ fn write_first_page(file: &mut File, _held: &[u8]) -> io::Result<()>
     file.sync_all()
 }
 
-// Makes a database for its owner alone, also in a file whose making was cut off, unless something else has its name. The kit's
-// open would make a file that all may read. A file is never removed: another process may have it open.
-fn make(rt: &HostRuntime, path: &str) -> Result<(), OpenError> {
+// Makes a database for its owner only, also in a file whose making was cut off, unless something else has its name, and tells
+// whether it has written the first page. The kit's open would make a file that all may read. A file is never removed: another
+// process may have it open.
+fn make(rt: &HostRuntime, path: &str) -> Result<bool, OpenError> {
     if !is_beside(rt, path, "")? {
         check_alone(rt, path)?;
     }
     let mut file = match small_file(rt, path) {
         Ok(Some(file)) => file,
-        Ok(None) => return Ok(()),
+        Ok(None) => return Ok(false),
         Err(error) => return Err(system_error(error)),
     };
     let mut page = [0; PAGE];
     if !small_bytes(&file, &mut page)?.is_some_and(is_unmade) {
-        return Ok(());
+        return Ok(false);
     }
     // Of the processes that open the file by this call one writes the page. SQLite takes another lock, for which std has no call.
     match file.try_lock() {
@@ -323,13 +324,46 @@ fn make(rt: &HostRuntime, path: &str) -> Result<(), OpenError> {
     }
     // Before the lock another process may have written or replaced the file.
     let Some(held) = small_bytes(&file, &mut page)? else {
-        return Ok(());
+        return Ok(false);
     };
     if !is_unmade(held) || !is_at(rt, &file, path)? {
-        return Ok(());
+        return Ok(false);
     }
     check_alone(rt, path)?;
-    write_first_page(&mut file, held).map_err(system_error)
+    match write_first_page(&mut file, held) {
+        Ok(()) => Ok(true),
+        Err(error) => Err(system_error(error)),
+    }
+}
+
+/// Makes the file for accounts at a path, as [`open`](crate::AccountFile::open) does, and does not keep it open. It returns
+/// whether this call has made the file: of the processes that make one at the same time at most one gets `true`. No clause
+/// says so.
+///
+/// # Errors
+/// Those of [`open`](crate::AccountFile::open) that come while a file is made: [`OpenError::Path`], [`OpenError::Busy`],
+/// [`OpenError::LogWithoutFile`], [`OpenError::Full`] and [`OpenError::OutOfMemory`].
+pub fn make_file(rt: &HostRuntime, path: &str) -> Result<bool, OpenError> {
+    make(rt, resolve(rt, path)?.as_str())
+}
+
+/// Whether the file at a path is made: `false` if it is empty, or if its making was cut off, so that
+/// [`open`](crate::AccountFile::open) would make it. A file that holds something else counts as made. Nothing is written. No
+/// clause says so.
+///
+/// # Errors
+/// - [`OpenError::Path`]: there is no file, or it can't be read.
+/// - [`OpenError::LogWithoutFile`]: the file is not made, and a log or a journal lies beside it.
+/// - [`OpenError::OutOfMemory`].
+pub fn is_made(rt: &HostRuntime, path: &str) -> Result<bool, OpenError> {
+    let path = resolve(rt, path)?;
+    let file = open_regular(rt, path.as_str())?;
+    let mut page = [0; PAGE];
+    let is_made = !small_bytes(&file, &mut page)?.is_some_and(is_unmade);
+    if !is_made {
+        check_alone(rt, path.as_str())?;
+    }
+    Ok(is_made)
 }
 
 // The regular file at a path.
