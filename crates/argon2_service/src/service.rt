@@ -1,6 +1,6 @@
 //! What a service does with its accounts. Each function says by its contract what it promises of the names.
 
-ghost use Rattle.std.specs.Prelude.{◌≡◌, false, IfErr, IfOk, IsTrue, OnOk};
+ghost use Rattle.std.specs.Prelude.{◌≡◌, ◌⊎◌, false, IfErr, IfOk, IsTrue, MatchResult};
 ghost use Rattle.std.specs.FinMap.{get};
 ghost use Rattle.sqlite_wal.specs.Files.{image_at};
 ghost use Rattle.argon2_policy.specs.Policy.{Denies, policy_value};
@@ -62,15 +62,18 @@ pub fn has_password<R: Rng, S: Store>(
 /// Gives a new name a password, and copies the log into the file, so that the file alone has it.
 ///
 /// # Errors
-/// Those of [`Accounts::register`]. After those of [`AccountFile::checkpoint`] the name is registered.
+/// - those of [`Accounts::register`]: the names are as before, unless the disk failed during a commit.
+/// - those of [`AccountFile::checkpoint`]: the name is registered.
 pub fn sign_up<R: Rng, D: Disk>(
     accounts: &mut Accounts<'_, FileStore<D>>,
     rng: &mut R,
     name: &str,
     password: &[u8],
 ) -> Result<(), AccountError>
-    ensures { RelatesNames (λ before after. OnOk result
-        (AdmitsName (policy_value accounts.old.policy) after name.now password.now))
+    ensures { RelatesNames (λ before after. MatchResult result
+        (λ _. AdmitsName (policy_value accounts.old.policy) after name.now password.now)
+        (λ _. (after ≡ before)
+        ⊎ AdmitsName (policy_value accounts.old.policy) after name.now password.now))
         accounts.old.file accounts.new.file }
 {
     accounts.register(rng, name, password)?;
