@@ -1,7 +1,7 @@
 //! The program over any world outside it and any streams.
 #![tactic(auto, using(crate::proofs::Common::keeps_same))]
 
-ghost use Rattle.std.specs.Prelude.{◌≡◌, ◌≤◌, ◌⊎◌, ◌++◌, ◌∷◌, [], ℕ, vec_items, IfErr, IfOk, IsTrue, false, string_bytes, take};
+ghost use Rattle.std.specs.Prelude.{◌≡◌, ◌≤◌, ◌⊎◌, ◌++◌, ◌∷◌, [], ℕ, vec_items, IfErr, IfOk, IsTrue, OnOk, false, string_bytes, take};
 ghost use Rattle.argon2_passwd.specs.Answers.{Appends, AppendsFront, UsesNoFile, IsDenialOf, EndsCommand, IsNewText, IsPolicy, IsSalt, IsSecret, WritesErrors, IsNotNew, Outcome, Params, WritesLine, denial_line, news_of, news_text, next_salt, option_map, phc_of, policy_by, policy_value, status_by, status_of};
 
 use crate::command::{Action, Command, EditTask, Task};
@@ -89,14 +89,34 @@ fn news_text(alloc: Global, path: &str, news: News) -> Result<String, AllocError
     format!(in alloc; "{made}{behind}")
 }
 
-// Says why the program fails, and returns the exit status. If the reader of standard output has gone, nothing is said.
-fn fail<E: Write>(errors: &mut E, command: &Command<'_>, failure: &Failure) -> u8
+/// Says on `errors` why the program fails, and returns the exit status. If the reader of standard output has gone, nothing is
+/// said.
+pub fn fail<E: Write>(errors: &mut E, command: &Command<'_>, failure: &Failure) -> u8
     ensures value { result ≡ status_of failure.now }
     ensures some { (1 ≤ result) × (result ≤ 4) }
     ensures denied { command.now.options.explain ≡ false → IsDenialOf command.now.action failure.now →
         AppendsFront (E.contents errors.old) (E.contents errors.new) denial_line }
 {
-    let _ = if matches!(failure, Failure::Unread) {
+    let _ = say_failure(errors, command, failure);
+    failure.status()
+}
+
+/// Writes to `errors` why the program fails, and nothing if the reader of standard output has gone. Unless `explain` is set, a
+/// login that is refused has the same line for an unknown name, a locked one and a wrong password.
+///
+/// # Errors
+/// A write fails. Then a prefix of the line is there.
+pub fn say_failure<E: Write>(
+    errors: &mut E,
+    command: &Command<'_>,
+    failure: &Failure,
+) -> io::Result<()>
+    ensures denied { command.now.options.explain ≡ false → IsDenialOf command.now.action failure.now →
+        OnOk result (Appends (E.contents errors.old) (E.contents errors.new) denial_line) }
+    ensures cut { command.now.options.explain ≡ false → IsDenialOf command.now.action failure.now →
+        AppendsFront (E.contents errors.old) (E.contents errors.new) denial_line }
+{
+    if matches!(failure, Failure::Unread) {
         Ok(())
     } else if let Failure::Passed(lines) = failure {
         write_passed(errors, lines.as_slice())
@@ -107,8 +127,7 @@ fn fail<E: Write>(errors: &mut E, command: &Command<'_>, failure: &Failure) -> u
             Some(subject) => writeln!(errors, "{PROGRAM}: {subject}: {failure}"),
             None => writeln!(errors, "{PROGRAM}: {failure}"),
         }
-    };
-    failure.status()
+    }
 }
 
 // Says which lines were passed over, and why.
