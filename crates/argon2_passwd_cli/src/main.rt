@@ -1,12 +1,13 @@
 //! `argon2-passwd`: makes texts of passwords, checks passwords by them, and keeps accounts in a file.
 #![tactic(auto)]
 
-use argon2_passwd::run::{PROGRAM, run};
-use argon2_passwd::{Action, Command, Task};
-use argon2_programs::{Failure, words};
+use argon2_passwd::asking::{ask, questions_of, reads_lines};
+use argon2_passwd::run::{PROGRAM, fail, run};
+use argon2_passwd::{Action, Command};
+use argon2_programs::{Failure, words, write_line};
 use machine::Machine;
 use std::alloc::{AllocError, Global};
-use std::io::{BufRead, BufReader, BufWriter, ErrorKind, Read};
+use std::io::{BufRead, BufReader, BufWriter, Cursor, ErrorKind, IsTerminal, Read, Stderr, Write};
 use std::process::ExitCode;
 
 mod arguments;
@@ -28,38 +29,82 @@ fn main(rt: HostRuntime) -> ExitCode {
         Err(status) => return ExitCode::from(status),
     };
     let parsed = arguments::parse(rt.alloc(), words.as_slice(), &mut output, &mut errors);
-    let mut command = match parsed {
+    let command = match parsed {
         Ok(command) => command,
         Err(status) => return ExitCode::from(status),
     };
     let mut input = input.take(most_input(&command));
-    let line = match text_line(rt.alloc(), &command, &mut input) {
-        Ok(line) => line,
-        Err(failure) => {
-            return ExitCode::from(failure.report(PROGRAM, "standard input", &mut errors));
-        }
+    let status = if rt.stdin().is_terminal() {
+        serve_terminal(&rt, command, &mut input, &mut output, &mut errors)
+    } else {
+        serve(&rt, command, &mut input, &mut output, &mut errors)
     };
-    if let Some(line) = &line {
-        command.action = Action::Check(without_end(line.as_str()));
-    }
-    let mut machine = Machine::new(&rt);
-    let status = run(
-        rt.alloc(),
-        command,
-        &mut machine,
-        &mut input,
-        &mut output,
-        &mut errors,
-    );
     ExitCode::from(status)
 }
 
-// The most bytes of standard input that a command takes: two lines, or all lines of an import.
+// The most bytes of standard input that a command takes: three lines, or all lines of an import.
 fn most_input(command: &Command<'_>) -> u64 {
-    match command.action {
-        Action::OnFile(_, Task::Import { .. } | Task::ImportOthers { .. }) => u64::MAX,
-        _ => 2 * LONGEST_LINE,
+    if reads_lines(command.action) {
+        u64::MAX
+    } else {
+        3 * LONGEST_LINE
     }
+}
+
+// Runs a command whose input is a terminal, and returns the exit status. It asks for the passwords that the command takes, or
+// says that the command takes lines.
+fn serve_terminal<R: BufRead, W: Write>(
+    rt: &HostRuntime,
+    command: Command<'_>,
+    input: &mut R,
+    output: &mut W,
+    errors: &mut Stderr,
+) -> u8 {
+    let Some(questions) = questions_of(command.action) else {
+        if reads_lines(command.action) && errors.is_terminal() {
+            let parts = [PROGRAM.as_bytes(), b": lines NAME:TEXT, then Ctrl-D"];
+            let _ = write_line(errors, &parts);
+        }
+        return serve(rt, command, input, output, errors);
+    };
+    match ask(rt.alloc(), questions, input, errors) {
+        Ok(lines) => serve(
+            rt,
+            command,
+            &mut Cursor::new(lines.as_slice()),
+            output,
+            errors,
+        ),
+        Err(failure) => fail(errors, &command, &failure),
+    }
+}
+
+// Runs a command on its input, and returns the exit status.
+fn serve<R: BufRead, W: Write, E: Write>(
+    rt: &HostRuntime,
+    command: Command<'_>,
+    input: &mut R,
+    output: &mut W,
+    errors: &mut E,
+) -> u8 {
+    let line = match text_line(rt.alloc(), &command, input) {
+        Ok(line) => line,
+        Err(failure) => return failure.report(PROGRAM, "standard input", errors),
+    };
+    let action = match &line {
+        Some(line) => Action::Check(without_end(line.as_str())),
+        None => command.action,
+    };
+    let options = command.options;
+    let mut machine = Machine::new(rt);
+    run(
+        rt.alloc(),
+        Command { options, action },
+        &mut machine,
+        input,
+        output,
+        errors,
+    )
 }
 
 // The next line of the input if the text of `check` is in it, and no text if it is not UTF-8.
