@@ -36,7 +36,7 @@ use Rattle.argon2_passwd.specs.declared.outside.News.{News}
 pub use Rattle.argon2_passwd.specs.News.{news_of, news_text}
 pub use Rattle.argon2_passwd.specs.Texts.{Known, ReadsPassword, behind, IsNewText, login_text, IsDenied, RefusesChange, IsSecret}
 pub use Rattle.argon2_passwd.specs.Additions.{ReadsLines, FailsToAdd, AddsLines, Looks, AddsEntries, PassesOver, FailsToLook, AddsOthers}
-pub use Rattle.argon2_passwd.specs.Files.{FileUse, IsOpened, IsOpenedStore, BeginOpened, IsOpenFor, OpensOnce, EditsOnce, ReadsText, FailsToRead, FailsOnName}
+pub use Rattle.argon2_passwd.specs.Files.{FileUse, IsOpened, IsOpenFor, OpensOnce, EditsOnce, ReadsText, FailsToRead, FailsOnName}
 
 -- what an accepted login did whose fresh text is not written
 abbrev pub answer_without_text : Accepted → Accepted

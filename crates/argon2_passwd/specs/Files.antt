@@ -1,5 +1,5 @@
 -- How a file with accounts is used.
-use Rattle.std.specs.Prelude.{◌≡◌, ◌⊎◌, ℕ, All, List, [], ◌∷◌, Option, Result, Ok, Err, IfOk}
+use Rattle.std.specs.Prelude.{◌≡◌, ◌⊎◌, ℕ, List, [], ◌∷◌, Option, Result, Ok, Err, IfOk}
 use Rattle.sqlite_trees.specs.declared.store.Store.{Ghosts}
 use Rattle.argon2_rows.specs.Names.{Texts, get}
 use Rattle.argon2_rows.specs.Table.{IsHonest}
@@ -21,14 +21,6 @@ module _ {S : Type 0} {g : Ghosts S} where
   IsOpened file = (names : Texts) × IsReady names file
 
 module _ {S : Type 0} (g : Ghosts S) where
-  -- the store of a file that was opened
-  abbrev pub IsOpenedStore : S → Type 0
-  IsOpenedStore store = (file : AccountFile S g) × IsOpened file × (database_of file ≡ store)
-
-  -- each use began with a file that was opened
-  abbrev pub BeginOpened : List (FileUse S) → Type 0
-  BeginOpened uses = All (λ used. IsOpenedStore used.first) uses
-
   -- the file at a path was opened, used so, and closed
   pub record IsOpenFor (path : List ℕ) (Does : AccountFile S g → AccountFile S g → Type 0) (Next : FileUse S → Type 0)
       : Type 0 where

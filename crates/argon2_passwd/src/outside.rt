@@ -33,7 +33,7 @@ pub enum RowCheck {
 
 /// Where the program finds the secret, random bytes and accounts. One file is open at a time.
 pub trait Outside {
-    ghost use Rattle.std.specs.Prelude.{◌≡◌, ◌++◌, ◌∷◌, [], ℕ, List, IfErr, IfOk, OnErr};
+    ghost use Rattle.std.specs.Prelude.{◌≡◌, ◌++◌, ◌∷◌, [], ℕ, List, IfErr, IfOk, OnErr, ⊤};
     ghost use Rattle.argon2_passwd.specs.Answers.{FileUse, IsOpened, database_of, status_of};
     ghost use Rattle.argon2_passwd.specs.declared.outside.News.{News};
 
@@ -46,11 +46,11 @@ pub trait Outside {
     // The system gives these random bytes.
     ghost gives: { List ℕ → Type 0 };
 
-    // The files that were opened and closed, in order, while none is open.
-    ghost closed: { Self → List (FileUse Self.File) → Type 0 };
+    // The files that were opened and closed, in order, while none is open. A type that keeps no list says nothing of it.
+    ghost closed: { Self → List (FileUse Self.File) → Type 0 } = { λ _ _. ⊤ };
 
     // The same while the file at this path is open, which was opened with this store.
-    ghost opened: { Self → List (FileUse Self.File) → List ℕ → Self.File → Type 0 };
+    ghost opened: { Self → List (FileUse Self.File) → List ℕ → Self.File → Type 0 } = { λ _ _ _ _. ⊤ };
 
     // What is said of the file that was opened.
     ghost news: { Self → News };

@@ -1,6 +1,5 @@
 //! The machine that the program runs on.
 
-use crate::history::History;
 use argon2_passwd::{Failure, IfAbsent, News, Outside, RowCheck, SecretKind};
 use argon2_store::{AccountFile, AccountsAt, OpenError, is_made, make_file};
 use sqlite_std_file::{FileFrom, Wary};
@@ -12,7 +11,7 @@ use std::io::{ErrorKind, Read};
 use std::os::unix::fs::MetadataExt;
 use std::random::RandomSource;
 use std::time::{Duration, Instant};
-use std::{fs, slice, thread};
+use std::{fs, thread};
 
 // The most bytes that a secret may have.
 const LONGEST_SECRET: usize = 4096;
@@ -31,22 +30,16 @@ pub struct Machine<'a> {
     waited: Duration,
     // When the last pause began, if the file is still in use.
     paused: Option<Instant>,
-    // The paths at which files were opened.
-    paths: History<u8>,
-    // The stores that were closed, each by itself.
-    stores: History<FileStore<FileFrom<Wary>>>,
 }
 
 impl<'a> Machine<'a> {
-    ghost use Rattle.std.specs.Prelude.{◌≡◌, [], IfErr, IfOk};
+    ghost use Rattle.std.specs.Prelude.{◌≡◌, IfErr, IfOk};
     ghost use Rattle.argon2_rows.specs.Names.{Texts};
     ghost use Rattle.argon2_store.specs.AccountFile.{IsReady};
     ghost use Rattle.argon2_passwd.specs.Failures.{status_of};
 
     /// The machine of this runtime, which has opened no file.
-    pub fn new(rt: &'a HostRuntime) -> Machine<'a>
-        ensures { (result.paths.items ≡ []) × (result.stores.items ≡ []) }
-    {
+    pub fn new(rt: &'a HostRuntime) -> Machine<'a> {
         Machine {
             rt,
             news: News {
@@ -55,8 +48,6 @@ impl<'a> Machine<'a> {
             },
             waited: Duration::ZERO,
             paused: None,
-            paths: History::new(),
-            stores: History::new(),
         }
     }
 
@@ -92,8 +83,7 @@ fn is_link(rt: &HostRuntime, path: &str) -> bool {
 }
 
 impl Outside for Machine<'_> {
-    ghost use Rattle.std.specs.Prelude.{◌≡◌, ◌≤◌, ◌∷◌, ◌++◌, [], length, map};
-    ghost use Rattle.argon2_passwd.specs.Answers.{BeginOpened, IsOpenedStore};
+    ghost use Rattle.std.specs.Prelude.{◌≡◌, ◌≤◌, length};
 
     type File = FileStore<FileFrom<Wary>>;
 
@@ -102,19 +92,6 @@ impl Outside for Machine<'_> {
 
     // Of random bytes only the number is known.
     ghost gives = { λ seed. length seed ≡ 32 };
-
-    // The paths and the last stores are those that were noted. The first store of each use is that of some opened file with
-    // names.
-    ghost closed = { λ machine uses.
-        (machine.paths.items ≡ map (λ used. used.path) uses)
-        × (machine.stores.items ≡ map (λ used. used.last ∷ []) uses)
-        × BeginOpened ⟦<FileStore<FileFrom<Wary>> as Store>⟧ uses };
-
-    ghost opened = { λ machine uses path first.
-        (machine.paths.items ≡ map (λ used. used.path) uses ++ path ∷ [])
-        × (machine.stores.items ≡ map (λ used. used.last ∷ []) uses)
-        × BeginOpened ⟦<FileStore<FileFrom<Wary>> as Store>⟧ uses
-        × IsOpenedStore ⟦<FileStore<FileFrom<Wary>> as Store>⟧ first };
 
     ghost news = { λ machine. machine.news };
 
@@ -186,12 +163,10 @@ impl Outside for Machine<'_> {
         self.news.is_made |= has_made;
         let accounts = self.open_accounts(path, rows)?;
         self.paused = None;
-        self.paths = self.paths.with(path.as_bytes());
         Ok(accounts)
     }
 
     fn close(&mut self, mut store: FileStore<FileFrom<Wary>>) {
-        self.stores = self.stores.with(slice::from_ref(&store));
         match store.checkpoint() {
             Ok(()) => self.news.is_behind = false,
             // Of a store that has failed, no change was acknowledged.

@@ -11,7 +11,6 @@ use std::io::{BufRead, BufReader, BufWriter, Cursor, ErrorKind, IsTerminal, Read
 use std::process::ExitCode;
 
 mod arguments;
-mod history;
 mod machine;
 
 // The most bytes of a line with a password, or with a text, and its LF or CR LF.
