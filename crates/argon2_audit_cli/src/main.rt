@@ -2,7 +2,7 @@
 #![tactic(auto)]
 
 use argon2_audit::run::{PROGRAM, run};
-use argon2_programs::{Failure, words};
+use argon2_programs::{Failure, words, write_line};
 use inputs::Inputs;
 use std::alloc::AllocError;
 use std::io::{BufWriter, IsTerminal};
@@ -22,6 +22,16 @@ fn main(rt: HostRuntime) -> ExitCode {
     };
     let status = match arguments::parse(rt.alloc(), words.as_slice(), &mut output, &mut errors) {
         Ok((options, names)) => {
+            if rt.stdin().is_terminal()
+                && errors.is_terminal()
+                && matches!(names.as_slice(), ["-"])
+            {
+                let parts = [
+                    PROGRAM.as_bytes(),
+                    b": stored texts, or lines NAME:TEXT, then Ctrl-D",
+                ];
+                let _ = write_line(&mut errors, &parts);
+            }
             let mut inputs = Inputs::new(&rt, names.as_slice());
             let (alloc, shows) = (rt.alloc(), errors.is_terminal());
             run(alloc, options, &mut inputs, &mut output, &mut errors, shows)
