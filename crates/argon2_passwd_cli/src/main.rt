@@ -32,8 +32,9 @@ fn main(rt: HostRuntime) -> ExitCode {
         Ok(command) => command,
         Err(status) => return ExitCode::from(status),
     };
-    let mut input = input.take(most_input(&command));
-    let status = if rt.stdin().is_terminal() {
+    let is_terminal = rt.stdin().is_terminal();
+    let mut input = input.take(most_input(&command, is_terminal));
+    let status = if is_terminal {
         serve_terminal(&rt, command, &mut input, &mut output, &mut errors)
     } else {
         serve(&rt, command, &mut input, &mut output, &mut errors)
@@ -41,12 +42,14 @@ fn main(rt: HostRuntime) -> ExitCode {
     ExitCode::from(status)
 }
 
-// The most bytes of standard input that a command takes: three lines, or all lines of an import.
-fn most_input(command: &Command<'_>) -> u64 {
+// The most bytes of standard input that a command takes: all lines of an import, or two lines. A terminal repeats a new password.
+fn most_input(command: &Command<'_>, is_terminal: bool) -> u64 {
     if reads_lines(command.action) {
         u64::MAX
-    } else {
+    } else if is_terminal {
         3 * LONGEST_LINE
+    } else {
+        2 * LONGEST_LINE
     }
 }
 
