@@ -63,9 +63,9 @@ completions = $(DESTDIR)$(PREFIX)/share/bash-completion/completions
 
 install: $(COMMANDS:%=out/all/%) $(COMMANDS:%=out/man/%.1)
 	install -d "$(bin)" "$(man)" "$(completions)"
-	install -m 755 $(COMMANDS:%=out/all/%) "$(bin)"
-	install -m 644 $(COMMANDS:%=out/man/%.1) "$(man)"
-	for command in $(COMMANDS); do install -m 644 build/completion "$(completions)/$$command" || exit; done
+	for command in $(COMMANDS); do build/put 755 out/all/$$command "$(bin)/$$command" && \
+	    build/put 644 out/man/$$command.1 "$(man)/$$command.1" && \
+	    build/put 644 build/completion "$(completions)/$$command" || exit; done
 
 uninstall:
 	for command in $(COMMANDS); do rm -f "$(bin)/$$command" "$(man)/$$command.1" "$(completions)/$$command" || exit; done
