@@ -14,7 +14,7 @@
 //! Ok(accounts.file.checkpoint()?)
 //! ```
 //!
-//! These are bodies of functions of `argon2_service`. They are over any disk, which keeps a proof short:
+//! These are bodies of functions of `argon2_example_service`. They are over any disk, which keeps a proof short:
 //! `main` alone knows which store it has. `CALLING.md` shows more of that program.
 //!
 //! A call that hashes keeps the file locked meanwhile. Services on several machines, and those that

@@ -4,8 +4,8 @@ use Rattle.std.specs.Char.{is_ascii_digit}
 use Rattle.std.specs.List.{before_first, list_all, position_or_len}
 use Rattle.std.specs.Io.BufRead.{strip_last}
 use Rattle.std.specs.Str.{IsUtf8, bytes_eq}
-use Rattle.argon2_programs.specs.Prefixes.{after_any, without_prefix, begins_any}
-use Rattle.argon2_programs.specs.Schemes.{scheme_of}
+use Rattle.argon2_schemes.specs.Prefixes.{after_any, without_prefix, begins_any}
+use Rattle.argon2_schemes.specs.Schemes.{scheme_of}
 use Rattle.argon2_base.specs.Error.{Fault, bad_encoding, outcome_of}
 use Rattle.argon2_base.specs.PhcText.{Phc, IsPhcText}
 use Rattle.argon2_base.specs.declared.error.password_hash.Error.{Error}

@@ -6,8 +6,8 @@ use Rattle.json.specs.Json.{Json, Items, Members, array, document, member, no_me
 use Rattle.json.specs.Token.{Token, begin_array, begin_object, key}
 use Rattle.json.specs.Tree.{HasNumbers, depth, items_tokens, json_tokens}
 use Rattle.json.specs.Written.{Written}
-use Rattle.argon2_programs.specs.declared.failure.Failure.{Failure}
-use Rattle.argon2_programs.specs.declared.failure.Failure.TheVariants.{Output}
+use Rattle.argon2_io.specs.declared.failure.Failure.{Failure}
+use Rattle.argon2_io.specs.declared.failure.Failure.TheVariants.{Output}
 use Rattle.argon2_audit.specs.Audit.{IsClean, IsTallied, count_of}
 use Rattle.argon2_audit.specs.declared.finding.Class.TheVariants.{Outside, NoHash, Below, Sound, Other, Locked, Empty, Blank, Comment, Unknown}
 use Rattle.argon2_audit.specs.declared.findings.Value.{Value}

@@ -5,7 +5,7 @@ ghost use Rattle.std.specs.List.{list_all};
 ghost use Rattle.std.specs.Io.BufRead.{strip_last};
 ghost use Rattle.argon2_audit.specs.Finding.{claim_of_text, is_space, trim_line};
 
-use argon2_programs::{Scheme, after_any, begins_any, scheme_of};
+use argon2_schemes::{Scheme, after_any, begins_any, scheme_of};
 
 /// What a line claims to store.
 #[derive(Clone, Copy)]

@@ -6,7 +6,7 @@ ghost use Rattle.std.specs.List.{list_all, position_or_len};
 ghost use Rattle.argon2_audit.specs.Finding.{field_end, field_numbered, has_numbers, is_number, is_werkzeug, quoted_end, strip_quotes};
 
 use crate::claim::without_last;
-use argon2_programs::{after_any, begins_any};
+use argon2_schemes::{after_any, begins_any};
 use memchr::memchr;
 
 /// Which of a line's fields is its text.

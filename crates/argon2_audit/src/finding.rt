@@ -7,7 +7,7 @@ use crate::claim::{Claim, claim_of_text, is_blank, trim_line};
 use crate::field::Field;
 use crate::limits::{Entry, Limits, read_entry};
 use argon2::password_hash::Error;
-use argon2_programs::{begins_any, without_prefix};
+use argon2_schemes::{begins_any, without_prefix};
 
 /// What is found in a line.
 #[derive(Drop)]

@@ -10,7 +10,7 @@ use crate::limits::Kind;
 use crate::report::{Place, Remark, Remarks};
 use crate::session::Session;
 use crate::tally::Tally;
-use argon2_programs::Failure;
+use argon2_io::Failure;
 use json::Writer;
 use std::alloc::{AllocError, Global};
 use std::collections::BTreeMap;

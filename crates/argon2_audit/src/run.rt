@@ -10,7 +10,7 @@ use crate::limits::{Form, Options};
 use crate::report::{Lines, Place, Remarks, write_table};
 use crate::session::Session;
 use crate::tally::Tally;
-use argon2_programs::{Failure, write_line};
+use argon2_io::{Failure, write_line};
 use std::alloc::Global;
 use std::io;
 use std::io::{ErrorKind, Read, Write};

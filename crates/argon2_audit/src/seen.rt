@@ -8,7 +8,7 @@ use crate::claim::Claim;
 use crate::finding::Finding;
 use crate::limits::Kind;
 use argon2::phc::Salt;
-use argon2_programs::Scheme;
+use argon2_schemes::Scheme;
 use arrayvec::ArrayVec;
 use std::alloc::{AllocError, Global};
 use std::collections::{BTreeMap, BTreeSet};

@@ -9,7 +9,7 @@ use crate::limits::Options;
 use crate::report::{Place, Remarks, remark_on};
 use crate::seen::Seen;
 use crate::tally::Tally;
-use argon2_programs::Failure;
+use argon2_io::Failure;
 use memchr::memchr;
 use std::alloc::{AllocError, Global};
 

@@ -3,7 +3,7 @@
 use argon2::{Algorithm, KeyId};
 use argon2_audit::run::PROGRAM;
 use argon2_audit::{Field, Form, Limits, Options};
-use argon2_commands::{Argument, CommandLine, Matches, Refusal, argument};
+use argon2_cli::{Argument, CommandLine, Matches, Refusal, argument};
 use std::alloc::{AllocError, Global};
 use std::fmt::InlineText;
 use std::io::Write;

@@ -2,7 +2,7 @@
 #![tactic(auto)]
 
 use argon2_audit::run::{PROGRAM, run};
-use argon2_programs::{Failure, words, write_line};
+use argon2_io::{Failure, words, write_line};
 use inputs::Inputs;
 use std::alloc::AllocError;
 use std::io::{BufWriter, IsTerminal};

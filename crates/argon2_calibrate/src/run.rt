@@ -10,7 +10,7 @@ use crate::choice::Found;
 use crate::options::Options;
 use crate::search::search;
 use crate::stopwatch::Stopwatch;
-use argon2_programs::{Failure, write_line};
+use argon2_io::{Failure, write_line};
 use json::Writer;
 use std::alloc::Global;
 use std::io::Write;

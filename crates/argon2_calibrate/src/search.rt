@@ -7,7 +7,7 @@ use crate::choice::{Choice, Found, are_scattered, is_shared, least_passes, pass_
 use crate::options::Options;
 use crate::run::PROGRAM;
 use crate::stopwatch::{Stopwatch, Times};
-use argon2_programs::Failure;
+use argon2_io::Failure;
 use std::alloc::AllocError;
 use std::io::Write;
 

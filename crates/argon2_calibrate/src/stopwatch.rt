@@ -7,7 +7,7 @@ ghost use Rattle.argon2.specs.declared.algorithm.Algorithm.TheVariants.{Argon2id
 ghost use Rattle.argon2.specs.declared.version.Version.TheVariants.{V0x13};
 
 use argon2::{Algorithm, Argon2, Params, Version};
-use argon2_programs::Failure;
+use argon2_io::Failure;
 use std::alloc::Global;
 use std::rt::{Clock, CpuClock};
 use std::time::{Duration, Instant};

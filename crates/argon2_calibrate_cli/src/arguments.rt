@@ -5,7 +5,7 @@ ghost use Rattle.argon2_calibrate.specs.Choice.{ArePossible};
 
 use argon2_calibrate::Options;
 use argon2_calibrate::run::PROGRAM;
-use argon2_commands::{Argument, CommandLine, Kind, Matches, Refusal, argument};
+use argon2_cli::{Argument, CommandLine, Kind, Matches, Refusal, argument};
 use std::alloc::Global;
 use std::io::Write;
 use std::num::saturating_f64_to_u64;

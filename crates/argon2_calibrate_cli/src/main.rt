@@ -3,7 +3,7 @@
 
 use argon2_calibrate::Machine;
 use argon2_calibrate::run::{PROGRAM, run};
-use argon2_programs::words;
+use argon2_io::words;
 use std::fs;
 use std::process::ExitCode;
 

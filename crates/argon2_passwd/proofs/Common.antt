@@ -11,7 +11,7 @@ pub use Rattle.std.specs.Prelude.{All, IfOk, IfSome, String, string_bytes, â—Œâ‰
 pub use Rattle.std.specs.Str.{is_utf8}
 pub use Rattle.std.specs.Str.Lines.{lines, lines_of_parts, strip_carriage_return}
 pub use Rattle.argon2_rows.proofs.TableLemmas.{err_is, quiet_then}
-pub use Rattle.argon2_programs.specs.Locks.{behind_lock, without_lock}
+pub use Rattle.argon2_schemes.specs.Locks.{after_lock, without_lock}
 pub use Rattle.argon2_store.specs.AccountFile.{HasCause, HasFailedBy, IsClosed, Reads}
 pub use Rattle.argon2_passwd.specs.Answers.{AccountFile, AddsEntries, additions, answer_without_text, Appends, AreSaid, behind, Bor, database_of, entries_in, entry_of, entry_or_flaw}
 pub use Rattle.argon2_passwd.specs.Answers.{FileError, FileUse, Flaw, flaws_from, get, Ghosts, has_name, HasNames, has_text, IsHonest, ReadsText, ReportsFirst, IsOpened, IsOpenFor}

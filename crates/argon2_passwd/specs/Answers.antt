@@ -10,7 +10,7 @@ use Rattle.argon2.specs.Login.{accepted_text}
 use Rattle.argon2.specs.declared.login.answers.Accepted.{Accepted}
 use Rattle.argon2.specs.declared.login.answers.Accepted.TheVariants.{Kept, Rehashed}
 pub use Rattle.argon2_policy.specs.Policy.{AdmitsStored, Denies, IsPolicy, LogsIn, IsMakingRefusal, PolicyValue, SaysValue, policy_value, value_after}
-pub use Rattle.argon2_programs.specs.Lines.{AppendsFront}
+pub use Rattle.argon2_io.specs.Lines.{AppendsPrefix}
 pub use Rattle.argon2_rows.specs.Names.{IsFirstTaken, Texts, entry_of, get}
 pub use Rattle.argon2_rows.specs.Table.{IsHonest}
 pub use Rattle.argon2_store.specs.AccountFile.{HasNames, IsReady, NamesStay, Serves, Stays, WritesLines, error_of, database_of}
@@ -52,7 +52,7 @@ login_by did (Err failure) = if is_denial failure then Err failure else Ok (answ
 -- a line was written, or a front of it if a write fails
 abbrev pub WritesLine : List ℕ → Outcome → Known → Known → Type 0
 WritesLine line (Ok _) old new = Appends old new line
-WritesLine line (Err failure) old new = IsOfWrite failure × AppendsFront old new line
+WritesLine line (Err failure) old new = IsOfWrite failure × AppendsPrefix old new line
 
 -- what a login did was said, or nothing if it is refused
 abbrev pub WritesLogin : Result Accepted Failure → Outcome → Known → Known → Type 0
@@ -164,4 +164,4 @@ module _ {S : Type 0} (g : Ghosts S) (Gives : List ℕ → Type 0) where
 abbrev pub WritesErrors : Options → Action → News → Outcome → Known → Known → Type 0
 WritesErrors options what news (Ok _) old new = (n : ℕ) × Appends old new (take n (news_of what news))
 WritesErrors options what news (Err failure) old new = options.explain ≡ false → IsDenialOf what failure
-    → (mid : Known) × (n : ℕ) × Appends old mid (take n (news_of what news)) × AppendsFront mid new denial_line
+    → (mid : Known) × (n : ℕ) × Appends old mid (take n (news_of what news)) × AppendsPrefix mid new denial_line

@@ -12,9 +12,9 @@ use Rattle.std.specs.Str.Lines.{lines}
 use Rattle.std.specs.FinMap.{get}
 pub use Rattle.argon2_base.specs.PhcText.{Phc, IsPhcText}
 use Rattle.argon2.specs.StoredTexts.{shown_settings}
-use Rattle.argon2_programs.specs.Prefixes.{after_any, begins_any, without_prefix}
-pub use Rattle.argon2_programs.specs.Schemes.{scheme_of}
-use Rattle.argon2_programs.specs.Locks.{without_lock}
+use Rattle.argon2_schemes.specs.Prefixes.{after_any, begins_any, without_prefix}
+pub use Rattle.argon2_schemes.specs.Schemes.{scheme_of}
+use Rattle.argon2_schemes.specs.Locks.{without_lock}
 use Rattle.argon2_rows.specs.StoredTexts.{IsLine, IsStored}
 use Rattle.argon2_rows.specs.Names.{Texts, entry_of}
 use Rattle.argon2_rows.specs.Rows.{breaks_line}

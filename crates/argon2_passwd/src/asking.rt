@@ -10,7 +10,7 @@ ghost use Rattle.argon2_passwd.specs.Asking.{FailsToTake, ReadsLine, Takes, Take
 
 use crate::command::{Action, EditTask, Task};
 use crate::failure::{Failure, of_reading};
-use argon2_programs::write_bytes;
+use argon2_io::write_bytes;
 use std::alloc::Global;
 use std::io::{BufRead, Write};
 

@@ -7,9 +7,9 @@ ghost use Rattle.argon2_rows.specs.Names.{text_in};
 
 use crate::failure::{Failure, Flaw, of_reading};
 use argon2::password_hash::Settings;
-use argon2_programs::{begins_any, behind_lock, scheme_of};
 use argon2_rows::StoredText;
 pub use argon2_rows::table::LONGEST;
+use argon2_schemes::{after_lock, begins_any, scheme_of};
 use argon2_store::View;
 use std::alloc::Global;
 use std::io::BufRead;
@@ -47,7 +47,7 @@ pub fn addable_text(text: &str, any_text: bool) -> Option<StoredText<'_>>
 fn has_scheme(text: &str) -> bool
     ensures { result ≡ has_scheme text.now }
 {
-    let text = behind_lock(text).unwrap_or(text).as_bytes();
+    let text = after_lock(text).unwrap_or(text).as_bytes();
     scheme_of(text).is_some() && !has_field(text)
 }
 

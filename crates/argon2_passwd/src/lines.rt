@@ -7,8 +7,8 @@ ghost use Rattle.argon2_rows.specs.Names.{entry_of};
 use crate::entries::{BYTE_ORDER_MARK, LONGEST, addable_text, name_flaw, split_line};
 use crate::failure::Flaw;
 use crate::passwords::line_len;
-use argon2_programs::{after_any, str_without_prefix};
 use argon2_rows::StoredText;
+use argon2_schemes::{after_any, str_without_prefix};
 use std::alloc::{AllocError, Global};
 
 /// What a line says: a name and a text that may be added, or why it has none.

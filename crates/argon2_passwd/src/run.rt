@@ -2,7 +2,7 @@
 #![tactic(auto, using(crate::proofs::Common::keeps_same))]
 
 ghost use Rattle.std.specs.Prelude.{◌≡◌, ◌≤◌, ◌⊎◌, ◌++◌, ◌∷◌, [], ℕ, vec_items, IfErr, IfOk, IsTrue, OnOk, false, string_bytes, take};
-ghost use Rattle.argon2_passwd.specs.Answers.{Appends, AppendsFront, UsesNoFile, IsDenialOf, EndsCommand, IsNewText, IsPolicy, IsSalt, IsSecret, WritesErrors, IsNotNew, Outcome, Params, WritesLine, denial_line, news_of, news_text, next_salt, option_map, phc_of, policy_by, policy_value, status_by, status_of};
+ghost use Rattle.argon2_passwd.specs.Answers.{Appends, AppendsPrefix, UsesNoFile, IsDenialOf, EndsCommand, IsNewText, IsPolicy, IsSalt, IsSecret, WritesErrors, IsNotNew, Outcome, Params, WritesLine, denial_line, news_of, news_text, next_salt, option_map, phc_of, policy_by, policy_value, status_by, status_of};
 
 use crate::command::{Action, Command, EditTask, Task};
 use crate::failure::{Failure, Flaw, SecretKind};
@@ -10,8 +10,8 @@ use crate::options::Options;
 use crate::outside::{News, Outside};
 use crate::passwords::{read_new_password, read_password};
 use argon2::{Algorithm, Argon2, PasswordHash, Version};
+use argon2_io::write_line;
 use argon2_policy::Policy;
-use argon2_programs::write_line;
 use rand_chacha::ChaCha20Rng;
 use rand_core::SeedableRng;
 use std::alloc::{AllocError, Global};
@@ -95,7 +95,7 @@ pub fn fail<E: Write>(errors: &mut E, command: &Command<'_>, failure: &Failure) 
     ensures value { result ≡ status_of failure.now }
     ensures some { (1 ≤ result) × (result ≤ 4) }
     ensures denied { command.now.options.explain ≡ false → IsDenialOf command.now.action failure.now →
-        AppendsFront (E.contents errors.old) (E.contents errors.new) denial_line }
+        AppendsPrefix (E.contents errors.old) (E.contents errors.new) denial_line }
 {
     let _ = say_failure(errors, command, failure);
     failure.status()
@@ -114,7 +114,7 @@ pub fn say_failure<E: Write>(
     ensures denied { command.now.options.explain ≡ false → IsDenialOf command.now.action failure.now →
         OnOk result (Appends (E.contents errors.old) (E.contents errors.new) denial_line) }
     ensures cut { command.now.options.explain ≡ false → IsDenialOf command.now.action failure.now →
-        AppendsFront (E.contents errors.old) (E.contents errors.new) denial_line }
+        AppendsPrefix (E.contents errors.old) (E.contents errors.new) denial_line }
 {
     if matches!(failure, Failure::Unread) {
         Ok(())

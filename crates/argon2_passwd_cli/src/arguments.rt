@@ -3,7 +3,7 @@
 use argon2::bound::Bound;
 use argon2::phc::read_decimal;
 use argon2::{KeyId, Params, ParamsBuilder};
-use argon2_commands::{Argument, CommandLine, Matches, Refusal, argument};
+use argon2_cli::{Argument, CommandLine, Matches, Refusal, argument};
 use argon2_passwd::run::PROGRAM;
 use argon2_passwd::{Action, Command, EditTask, Options, Task};
 use argon2_store::View;

@@ -1,10 +1,10 @@
 //! `argon2-passwd`: makes texts of passwords, checks passwords by them, and keeps accounts in a file.
 #![tactic(auto)]
 
+use argon2_io::{Failure, words, write_line};
 use argon2_passwd::asking::{ask, questions_of, reads_lines};
 use argon2_passwd::run::{PROGRAM, fail, run};
 use argon2_passwd::{Action, Command};
-use argon2_programs::{Failure, words, write_line};
 use machine::Machine;
 use std::alloc::{AllocError, Global};
 use std::io::{BufRead, BufReader, BufWriter, Cursor, ErrorKind, IsTerminal, Read, Stderr, Write};

@@ -22,7 +22,7 @@ use Rattle.argon2_policy.specs.Policy.{AcceptsBy, AsksWithin, Bound, BoundError,
 use Rattle.argon2_policy.specs.Policy.{AsksFor, HashValue, IsAged, IsOutdated, IsShut, Recent, SaysValue, hash_of, hashes_of_wrong, settings_or_target, shown_settings, text_of}
 use Rattle.argon2_policy.specs.Denials.{Locked, NameUnknown, OtherScheme}
 use Rattle.argon2_policy.specs.declared.policy.Age.{Age}
-use Rattle.argon2_programs.specs.Schemes.{scheme_of}
+use Rattle.argon2_schemes.specs.Schemes.{scheme_of}
 pub use Rattle.argon2_policy.specs.Policy.{Admits, AdmitsStored, IsFound, IsVerifyAnswer, IsPolicy, Outdated, PasswordInvalid, PolicyValue, IsSecretsRefusal, drawn_salt, phc_of, policy_value}
 
 -- ---- the bound

@@ -4,7 +4,7 @@ use Rattle.argon2_base.specs.Error.{hash_error_text}
 use Rattle.argon2_base.specs.declared.error.password_hash.Error.TheVariants.{PasswordInvalid}
 use Rattle.argon2.specs.declared.bound.BoundError.{BoundError}
 use Rattle.argon2.specs.declared.bound.BoundError.TheVariants as bound
-use Rattle.argon2_programs.specs.Schemes.{scheme_name}
+use Rattle.argon2_schemes.specs.Schemes.{scheme_name}
 pub use Rattle.argon2_policy.specs.declared.denial.Denial.{Denial}
 pub use Rattle.argon2_policy.specs.declared.denial.Denial.TheVariants.{NameUnknown, Locked, OtherScheme, TooExpensive, Refused}
 

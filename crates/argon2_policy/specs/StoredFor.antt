@@ -3,8 +3,8 @@ use Rattle.std.specs.Prelude.{◌≡◌, ◌⊎◌, ℕ, List, false, Option, So
 use Rattle.argon2_base.specs.PhcText.{Phc, IsPhcText}
 use Rattle.argon2_base.specs.declared.error.password_hash.Error.TheVariants.{EncodingInvalid}
 use Rattle.argon2.specs.NamedTexts.{IsText}
-use Rattle.argon2_programs.specs.Locks.{is_locked}
-use Rattle.argon2_programs.specs.Schemes.{scheme_of}
+use Rattle.argon2_schemes.specs.Locks.{is_locked}
+use Rattle.argon2_schemes.specs.Schemes.{scheme_of}
 use Rattle.argon2_policy.specs.Denials.{Denial, Locked, NameUnknown, OtherScheme, Refused}
 
 -- the text says this value: it is not locked, not of another scheme, and in the grammar

@@ -5,7 +5,7 @@ ghost use Rattle.argon2_policy.specs.Denials.{denial_text, is_wrong, of_bound};
 
 use argon2::bound::BoundError;
 use argon2::password_hash::Error;
-use argon2_programs::Scheme;
+use argon2_schemes::Scheme;
 use std::fmt;
 
 /// Why a password is not accepted by what is stored for a name, or a fresh text is not made of it.

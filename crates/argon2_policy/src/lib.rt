@@ -16,6 +16,6 @@ mod hashes;
 mod policy;
 mod stored;
 
-pub use argon2_programs::Scheme;
+pub use argon2_schemes::Scheme;
 pub use denial::Denial;
 pub use policy::Policy;

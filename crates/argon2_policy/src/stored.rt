@@ -7,7 +7,7 @@ ghost use Rattle.argon2_policy.specs.StoredFor.{IsShut, SaysValue};
 
 use crate::denial::Denial;
 use argon2::PasswordHash;
-use argon2_programs::{behind_lock, scheme_of};
+use argon2_schemes::{after_lock, scheme_of};
 
 /// What a stored text says, if there is one that is open.
 pub(crate) fn read(stored: Option<&str>) -> Result<PasswordHash, Denial>
@@ -19,7 +19,7 @@ pub(crate) fn read(stored: Option<&str>) -> Result<PasswordHash, Denial>
     let Some(text) = stored else {
         return Err(Denial::NameUnknown);
     };
-    if behind_lock(text).is_some() {
+    if after_lock(text).is_some() {
         return Err(Denial::Locked);
     }
     match scheme_of(text.as_bytes()) {

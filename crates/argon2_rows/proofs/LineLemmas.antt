@@ -3,7 +3,7 @@ use Rattle.argon2_rows.proofs.Imports.{AllByRecursion, get-entries, arith, ap, r
 use Rattle.argon2_rows.proofs.Imports.{sought, Advances, with_cursor, IsLineOf, breaks_line, AreCut, AreCutLines, AreLinesOf, AreWritten, Result, Ok, Err, MatchResult, row_of, rows_of, true, false, Written}
 use Rattle.argon2_rows.proofs.Imports.{Appends-kept, Appends-nil, Appends-trans, Keeps, from_key-none, Breaks, Failed}
 use Rattle.std.proofs.lemmas.List.Elements.{All-cons, All-nil}
-use Rattle.argon2_programs.proofs.Fronts.{front_of_longer, text_and_front}
+use Rattle.argon2_io.proofs.Prefixes.{prefix_of_longer, text_and_prefix}
 use Rattle.std.specs.declared.io.Error.{Error}
 use Rattle.argon2_rows.specs.declared.view.View.{View}
 use Rattle.argon2_rows.proofs.RowLemmas.{each_name}
@@ -18,7 +18,7 @@ Fits view e = breaks_line view e.0 ≡ false
 cut_then : (view : View) (e : List ℕ × List ℕ) (es : List (List ℕ × List ℕ)) (old mid new : Option (List ℕ))
     → IsLineOf view e old mid written.All → AreCutLines view es mid new → AreCutLines view (e ∷ es) old new
 cut_then view e es old mid new (first, fits) (before, after, is, fit, later) =
-    (e ∷ before, after, ap (λ l. e ∷ l) is, All-cons (Fits view) e before fits fit, text_and_front _ _ old mid new first later)
+    (e ∷ before, after, ap (λ l. e ∷ l) is, All-cons (Fits view) e before fits fit, text_and_prefix _ _ old mid new first later)
 
 -- one line before others
 line_then : (view : View) (e : List ℕ × List ℕ) (es : List (List ℕ × List ℕ)) (old mid new : Option (List ℕ)) (how : Written)
@@ -92,7 +92,7 @@ module _ (view : View) (now : Shown) (names : Texts) (old mid out : Option (List
         left,
         refl,
         All-cons (Fits view) e [] line.1 (All-nil (Fits view)),
-        front_of_longer _ [] mid out line.0,
+        prefix_of_longer _ [] mid out line.0,
       )
 
   -- the last row was written, and the output is flushed

@@ -7,7 +7,7 @@ use Rattle.std.specs.Str.{chars}
 pub use Rattle.std.specs.declared.cmp.Ordering.TheVariants.{Less}
 pub use Rattle.sqlite_value.specs.declared.value.Value.TheVariants.{Text}
 pub use Rattle.sqlite_value.specs.Order.{Row}
-pub use Rattle.argon2_programs.specs.Lines.{AppendsFront}
+pub use Rattle.argon2_io.specs.Lines.{AppendsPrefix}
 use Rattle.argon2_rows.specs.StoredTexts.{IsLine}
 use Rattle.argon2_rows.specs.Names.{Texts, slice_cmp, entries, get, nat_cmp}
 use Rattle.argon2_rows.specs.declared.rows.Found.{Found}
@@ -86,12 +86,12 @@ AreFitLines view es = All (λ e. breaks_line view e.0 ≡ false) es
 abbrev pub IsLineOf : View → List ℕ × List ℕ → Option (List ℕ) → Option (List ℕ) → Written → Type 0
 IsLineOf view e old new written.All = Appends old new (line view e) × (breaks_line view e.0 ≡ false)
 IsLineOf view e old new Breaks = Keeps old new × (breaks_line view e.0 ≡ true)
-IsLineOf view e old new (Failed why) = AppendsFront old new (line view e) × (breaks_line view e.0 ≡ false)
+IsLineOf view e old new (Failed why) = AppendsPrefix old new (line view e) × (breaks_line view e.0 ≡ false)
 
 -- a prefix of the lines of these names is written, at most up to the first name that breaks its line
 abbrev pub AreCutLines : View → List (List ℕ × List ℕ) → Option (List ℕ) → Option (List ℕ) → Type 0
 AreCutLines view es old new = (before after : List (List ℕ × List ℕ))
-    × (es ≡ before ++ after) × AreFitLines view before × AppendsFront old new (flat_map (line view) before)
+    × (es ≡ before ++ after) × AreFitLines view before × AppendsPrefix old new (flat_map (line view) before)
 
 -- the lines of these names are written, or those before the first name that breaks it, and no more; or writing failed, and a
 -- front is there of such lines

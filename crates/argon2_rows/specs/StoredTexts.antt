@@ -2,7 +2,7 @@
 use Rattle.std.specs.Prelude.{◌≡◌, ◌==◌, ℕ, List, false}
 use Rattle.std.specs.List.{list_any}
 use Rattle.argon2_base.specs.PhcText.{Phc, IsPhcText}
-use Rattle.argon2_programs.specs.Locks.{without_lock}
+use Rattle.argon2_schemes.specs.Locks.{without_lock}
 
 -- the text is in the grammar of PHC texts, or is one behind `!`
 abbrev pub IsStored : List ℕ → Type 0

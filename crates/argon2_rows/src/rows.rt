@@ -5,12 +5,12 @@ ghost use Rattle.std.specs.Option.{option_map};
 ghost use Rattle.sqlite_trees.specs.View.{IsFailure, KeepsSchema};
 ghost use Rattle.sqlite_trees.specs.declared.error.StoreError.TheVariants.{OutOfMemory};
 ghost use Rattle.argon2_rows.specs.Names.{Texts, get};
-ghost use Rattle.argon2_rows.specs.Rows.{AreCut, AreLines, AreTexts, AreWritten, IsAccount, IsFoundAs, IsLineOf, digit, line, row_of, rows_of, shown, shown_char, Appends, AppendsFront, Text};
+ghost use Rattle.argon2_rows.specs.Rows.{AreCut, AreLines, AreTexts, AreWritten, IsAccount, IsFoundAs, IsLineOf, digit, line, row_of, rows_of, shown, shown_char, Appends, AppendsPrefix, Text};
 ghost use Rattle.argon2_rows.specs.declared.view.Written.TheVariants.{All, Failed};
 ghost use Rattle.argon2_rows.specs.Table.{HasRows, IsDue, IsUnwritten, IsHonest, IsOpen, Sees, StaysQuiet, Writes, done_of, plain, Index};
 
 use crate::view::{View, Written};
-use argon2_programs::{write_bytes, write_parts};
+use argon2_io::{write_bytes, write_parts};
 use sqlite_trees::error::StoreError;
 use sqlite_trees::store::{Direction, Store};
 use sqlite_value::order::is_same;
@@ -213,7 +213,7 @@ fn write_line<W: Write>(row: &Row, view: View, output: &mut W) -> Option<Written
 fn write_texts<W: Write>(name: &str, text: &[u8], view: View, output: &mut W) -> io::Result<()>
     ensures written { OnOk result
         (Appends (W.contents output.old) (W.contents output.new) (line view (name.now, text.now))) }
-    ensures cut { AppendsFront (W.contents output.old) (W.contents output.new)
+    ensures cut { AppendsPrefix (W.contents output.old) (W.contents output.new)
         (line view (name.now, text.now)) }
 {
     if let View::Export = view {
@@ -227,7 +227,7 @@ fn write_texts<W: Write>(name: &str, text: &[u8], view: View, output: &mut W) ->
 fn write_name<W: Write>(name: &str, output: &mut W) -> io::Result<()>
     ensures written { OnOk result
         (Appends (W.contents output.old) (W.contents output.new) (shown name.now)) }
-    ensures cut { AppendsFront (W.contents output.old) (W.contents output.new) (shown name.now) }
+    ensures cut { AppendsPrefix (W.contents output.old) (W.contents output.new) (shown name.now) }
 {
     for c in name.chars() {
         write_char(c, output)?;
@@ -239,7 +239,7 @@ fn write_name<W: Write>(name: &str, output: &mut W) -> io::Result<()>
 fn write_char<W: Write>(c: char, output: &mut W) -> io::Result<()>
     ensures written { OnOk result
         (Appends (W.contents output.old) (W.contents output.new) (shown_char c)) }
-    ensures cut { AppendsFront (W.contents output.old) (W.contents output.new) (shown_char c) }
+    ensures cut { AppendsPrefix (W.contents output.old) (W.contents output.new) (shown_char c) }
 {
     if c.is_control() {
         let code = c as u32 as u8;

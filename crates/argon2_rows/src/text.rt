@@ -4,12 +4,12 @@ ghost use Rattle.std.specs.Prelude.{◌≡◌, ◌⊎◌, IfErr, IfOk, MatchOpti
 ghost use Rattle.argon2_base.specs.PhcFields.{phc_of};
 ghost use Rattle.argon2_base.specs.PhcText.{IsPhcText};
 ghost use Rattle.argon2_base.specs.declared.error.password_hash.Error.TheVariants.{EncodingInvalid};
-ghost use Rattle.argon2_programs.specs.Locks.{without_lock};
+ghost use Rattle.argon2_schemes.specs.Locks.{without_lock};
 ghost use Rattle.argon2_rows.specs.StoredTexts.{IsLine, IsStored};
 
 use argon2_base::error::password_hash::Result;
 use argon2_base::phc::PasswordHash;
-use argon2_programs::behind_lock;
+use argon2_schemes::after_lock;
 
 /// A text as it is stored: a PHC text, or one line of another scheme. Behind `!` it is locked, and accepts no password.
 #[derive(Clone, Copy, Debug, PartialEq, Eq, PartialOrd, Ord)]
@@ -30,7 +30,7 @@ impl<'a> StoredText<'a> {
             × IsPhcText (without_lock text.now) (phc_of it.1)) }
         ensures invalid { IfErr result (λ e. (e ≡ EncodingInvalid) × ¬ IsStored text.now) }
     {
-        let hash = PasswordHash::new(behind_lock(text).unwrap_or(text))?;
+        let hash = PasswordHash::new(after_lock(text).unwrap_or(text))?;
         Ok((StoredText { text }, hash))
     }
 

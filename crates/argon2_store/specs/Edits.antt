@@ -3,7 +3,7 @@ use Rattle.std.specs.Prelude.{◌≡◌, ◌≤◌, ◌∷◌, ℕ, if◌then◌
 pub use Rattle.std.specs.Option.{option_map}
 use Rattle.std.specs.Str.{bytes_eq}
 pub use Rattle.argon2_base.specs.PhcFields.{text_of}
-use Rattle.argon2_programs.specs.Locks.{is_locked, without_lock}
+use Rattle.argon2_schemes.specs.Locks.{is_locked, without_lock}
 use Rattle.argon2_rows.specs.Names.{Texts, changed, get}
 use Rattle.argon2_rows.specs.Table.{IsHuge, IsLong}
 use Rattle.argon2_store.specs.Errors.{FileError, NameTaken, NameUnknown, Changed, Locked}

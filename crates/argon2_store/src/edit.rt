@@ -6,7 +6,7 @@ ghost use Rattle.argon2_store.specs.Edits.{EditsRow, named_edit};
 
 use crate::error::FileError;
 use argon2_base::phc::PasswordHash;
-use argon2_programs::behind_lock;
+use argon2_schemes::after_lock;
 
 /// An edit of the text of one name, for [`AccountFile::edit`](crate::AccountFile::edit). The method that each variant
 /// names says more.
@@ -52,7 +52,7 @@ pub(crate) fn row_edit<'old, 'new>(
             _ => Err(FileError::NameUnknown),
         };
     };
-    match (edit, behind_lock(text)) {
+    match (edit, after_lock(text)) {
         (Edit::Add(_), _) => Err(FileError::NameTaken),
         (Edit::Set(new), _) => Ok(RowEdit::Replace(text, new)),
         (Edit::Replace(_, _), Some(_)) => Err(FileError::Locked),

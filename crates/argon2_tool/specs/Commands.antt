@@ -18,7 +18,7 @@ use Rattle.argon2.specs.Rfc9106.{tag_of}
 use Rattle.argon2.specs.TextHashing.{hash_outcome}
 use Rattle.argon2.specs.Refusals.{answer_unless, length_refusal}
 use Rattle.argon2.specs.Settings.{SettingsValue, algorithm_named, first_fault, cost_parameters, version_numbered}
-use Rattle.argon2_programs.specs.Lines.{AppendsFront}
+use Rattle.argon2_io.specs.Lines.{AppendsPrefix}
 use Rattle.argon2_tool.specs.Failures.{IsOfInput, IsOfMemory}
 use Rattle.argon2_tool.specs.declared.arguments.Command.{Command}
 use Rattle.argon2_tool.specs.declared.arguments.Command.TheVariants.{Digest, Long, Tag, Phc as PhcCommand, Verify, Help, Version as VersionCommand}
@@ -156,5 +156,5 @@ AnswersCommand command input old new = IfSome input (λ message.
 -- it, or there is no line, and the output is as before
 abbrev pub FailsBy : Command → Failure → Option (List ℕ) → Option (List ℕ) → Option (List ℕ) → Type 0
 FailsBy command Output input old new = IfSome input (λ message.
-    (line : List ℕ) × Replies command message line × AppendsFront old new (line ++ 10 ∷ []))
+    (line : List ℕ) × Replies command message line × AppendsPrefix old new (line ++ 10 ∷ []))
 FailsBy command failure input old new = IfSome input (λ message. Fails command message failure) × Keeps old new

@@ -3,7 +3,7 @@ use Rattle.std.specs.Prelude.{◌≡◌, ◌≢◌, ⊤, ℕ, List, [], ◌∷�
 use Rattle.std.specs.IoError.{error_kind}
 use Rattle.std.specs.declared.io.Error.{Error as IoError}
 use Rattle.std.specs.declared.io.ErrorKind.TheVariants.{OutOfMemory as IoOutOfMemory}
-use Rattle.argon2_programs.specs.Lines.{AppendsFront}
+use Rattle.argon2_io.specs.Lines.{AppendsPrefix}
 use Rattle.argon2_base.specs.Error.{error_text, hash_error_text}
 use Rattle.argon2_base.specs.declared.error.Error.{Error}
 use Rattle.argon2_base.specs.declared.error.Error.TheVariants.{OutOfMemory}
@@ -57,4 +57,4 @@ failure_text (Text refusal) = hash_error_text refusal
 
 -- known bytes grow by the failure's line, or by a front of it if a write fails
 abbrev pub IsReported : Failure → Option (List ℕ) → Option (List ℕ) → Type 0
-IsReported failure old new = AppendsFront old new (codes "argon2: " ++ failure_text failure ++ 10 ∷ [])
+IsReported failure old new = AppendsPrefix old new (codes "argon2: " ++ failure_text failure ++ 10 ∷ [])

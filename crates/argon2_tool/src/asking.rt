@@ -11,7 +11,7 @@ ghost use Rattle.argon2_tool.specs.Failures.{IsOfAsking};
 use crate::arguments::Command;
 use crate::failure::Failure;
 use crate::run::read_all;
-use argon2_programs::write_bytes;
+use argon2_io::write_bytes;
 use std::alloc::Global;
 use std::io::{Read, Write};
 

@@ -1,7 +1,7 @@
 //! `argon2-tool`: digests, tags and PHC texts of standard input, and verifying.
 #![tactic(auto)]
 
-use argon2_programs::write_line;
+use argon2_io::write_line;
 use arguments::Command;
 use asking::{Awaited, ask, awaited_by};
 use failure::Failure;

@@ -5,7 +5,7 @@ ghost use Rattle.std.specs.Io.KnownBytes.{Keeps};
 ghost use Rattle.hex.specs.Hex.{encode_lower};
 ghost use Rattle.argon2_base.specs.Blake2b.{blake2b};
 ghost use Rattle.argon2_tool.specs.Commands.{AnswersCommand, FailsBy, IsCommand, IsPage, IsReply, Spells};
-ghost use Rattle.argon2_programs.specs.Lines.{AppendsFront};
+ghost use Rattle.argon2_io.specs.Lines.{AppendsPrefix};
 ghost use Rattle.argon2_tool.specs.Failures.{IsOfInput, IsReported};
 
 use crate::arguments::{Command, Request};
@@ -13,7 +13,7 @@ use crate::failure::Failure;
 use argon2::blake2b::Blake2b;
 use argon2::blake2b_long::blake2b_long;
 use argon2::{Argon2, PasswordHasher, PasswordVerifier};
-use argon2_programs::write_line;
+use argon2_io::write_line;
 use std::alloc::Global;
 use std::io::{ErrorKind, Read, Write};
 
@@ -79,7 +79,7 @@ pub fn run<R: Read, W: Write, E: Write>(
         × (failure : Failure)
         × FailsBy c failure (R.remaining input.old) (W.contents output.old) (W.contents output.new)
         × IsReported failure (E.contents errors.old) (E.contents errors.new) }
-    ensures usage_line { result ≡ 2 → AppendsFront (E.contents errors.old) (E.contents errors.new)
+    ensures usage_line { result ≡ 2 → AppendsPrefix (E.contents errors.old) (E.contents errors.new)
         (USAGE.now ++ 10 ∷ []) }
 {
     let Some(command) = Command::parse(args) else {

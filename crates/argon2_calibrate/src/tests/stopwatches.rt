@@ -1,7 +1,7 @@
 //! Stopwatches that need no clock.
 
 use crate::stopwatch::{Stopwatch, Times};
-use argon2_programs::Failure;
+use argon2_io::Failure;
 
 // Times for which the processor worked for nothing else.
 fn alone(taken: [u64; 3]) -> Option<Times> {

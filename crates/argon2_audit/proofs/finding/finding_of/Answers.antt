@@ -1,6 +1,6 @@
 use Rattle.std.proofs.Common.{rules, ◌≡◌, ◌∙◌, ℕ, false, Some, List, [], ◌∷◌, codes, refl}
 use Rattle.std.specs.List.{list_all}
-use Rattle.argon2_programs.specs.Prefixes.{without_prefix, begins_any}
+use Rattle.argon2_schemes.specs.Prefixes.{without_prefix, begins_any}
 use Rattle.argon2_audit.specs.Finding.{IsTextFinding, claim_of, claim_of_text, field_in, is_space, stored_in, trim_line}
 use Rattle.argon2_audit.specs.declared.claim.Claim.{Claim}
 use Rattle.argon2_audit.specs.declared.field.Field.{Field}

@@ -1,6 +1,6 @@
 use Rattle.argon2_passwd.proofs.Common.{ap, arith, Bool, Flaw, MayBeAdded, length, List, None, Option, Some, subst, sym, ℕ, ◌≡◌, ◌∙◌}
 use Rattle.std.specs.Prelude.{◌≤◌, if◌then◌else◌}
-use Rattle.argon2_programs.specs.Prefixes.{without_prefix}
+use Rattle.argon2_schemes.specs.Prefixes.{without_prefix}
 use Rattle.argon2_passwd.specs.Lines.{Character, IsFlaw, Mark, NameLength, NoText, Taken, TextLength, name_flaw, parts_of}
 use Rattle.argon2_passwd.proofs.lines.read_line.Goals as goal
 

@@ -1,6 +1,6 @@
 use Rattle.argon2_rows.proofs.Imports.{[], ◌∷◌}
 use Rattle.std.proofs.Common.{append_assoc}
-use Rattle.argon2_programs.proofs.Fronts.{front_of_longer, text_and_front}
+use Rattle.argon2_io.proofs.Prefixes.{prefix_of_longer, text_and_prefix}
 use Rattle.argon2_rows.proofs.rows.write_texts.Goals as goal
 
 pub returns-in-Export-clause-cut : goal.returns-in-Export-clause-cut
@@ -9,8 +9,8 @@ returns-in-Export-clause-cut g c =
     (rw c.as_bytes.ensures.value at c.write_parts.ensures.cut)
 
 pub returns-in_err-write_name-clause-cut : goal.returns-in_err-write_name-clause-cut
-returns-in_err-write_name-clause-cut g c = rw c.in_default.is (front_of_longer _ _ _ _ c.write_name.ensures.cut)
+returns-in_err-write_name-clause-cut g c = rw c.in_default.is (prefix_of_longer _ _ _ _ c.write_name.ensures.cut)
 
 pub returns-clause-cut : goal.returns-clause-cut
 returns-clause-cut g c =
-    rw c.in_default.is (text_and_front _ _ _ _ _ c.in_ok-write_name.ensures.written c.write_bytes.ensures.cut)
+    rw c.in_default.is (text_and_prefix _ _ _ _ _ c.in_ok-write_name.ensures.written c.write_bytes.ensures.cut)

@@ -1,0 +1,13 @@
+-- Why the programs fail.
+use Rattle.std.specs.Prelude.{◌≡◌, ◌≢◌}
+use Rattle.std.specs.IoError.{error_kind}
+use Rattle.std.specs.declared.io.Error.{Error}
+use Rattle.std.specs.declared.io.ErrorKind.TheVariants.{OutOfMemory}
+use Rattle.argon2_io.specs.declared.failure.Failure.{Failure}
+use Rattle.argon2_io.specs.declared.failure.Failure.TheVariants.{Input, Memory}
+
+-- the failure of a read: out of memory is reported as that
+abbrev pub IsOfReading : Error → Failure → Type 0
+IsOfReading error (Memory refused) = error_kind error ≡ OutOfMemory
+IsOfReading error (Input same) = (same ≡ error) × (error_kind error ≢ OutOfMemory)
+IsOfReading error _ = ⊥
