@@ -16,9 +16,9 @@ fn main(rt: HostRuntime) -> ExitCode {
     let Ok(mut output) = BufWriter::new(rt.alloc(), rt.stdout()) else {
         return ExitCode::from(Failure::Memory(AllocError).report(PROGRAM, "", &mut errors));
     };
-    let words = match words(&rt, PROGRAM, &mut errors) {
+    let words = match words(&rt) {
         Ok(words) => words,
-        Err(status) => return ExitCode::from(status),
+        Err(none) => return ExitCode::from(none.report(&rt, PROGRAM, &mut errors)),
     };
     let status = match arguments::parse(rt.alloc(), words.as_slice(), &mut output, &mut errors) {
         Ok((options, names)) => {

@@ -12,9 +12,9 @@ mod arguments;
 fn main(rt: HostRuntime) -> ExitCode {
     let (mut output, mut errors) = (rt.stdout(), rt.stderr());
     let alloc = rt.alloc();
-    let words = match words(&rt, PROGRAM, &mut errors) {
+    let words = match words(&rt) {
         Ok(words) => words,
-        Err(status) => return ExitCode::from(status),
+        Err(none) => return ExitCode::from(none.report(&rt, PROGRAM, &mut errors)),
     };
     let status = match arguments::parse(alloc, words.as_slice(), &mut output, &mut errors) {
         Ok(options) => {

@@ -5,6 +5,6 @@ mod arguments;
 mod failure;
 mod line;
 
-pub use arguments::words;
+pub use arguments::{NoWords, words};
 pub use failure::Failure;
 pub use line::{write_bytes, write_line, write_parts};

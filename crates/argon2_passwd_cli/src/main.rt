@@ -23,9 +23,9 @@ fn main(rt: HostRuntime) -> ExitCode {
     let (Ok(input), Ok(mut output)) = (input, output) else {
         return ExitCode::from(Failure::Memory(AllocError).report(PROGRAM, "", &mut errors));
     };
-    let words = match words(&rt, PROGRAM, &mut errors) {
+    let words = match words(&rt) {
         Ok(words) => words,
-        Err(status) => return ExitCode::from(status),
+        Err(none) => return ExitCode::from(none.report(&rt, PROGRAM, &mut errors)),
     };
     let parsed = arguments::parse(rt.alloc(), words.as_slice(), &mut output, &mut errors);
     let command = match parsed {

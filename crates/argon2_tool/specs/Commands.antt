@@ -19,12 +19,13 @@ use Rattle.argon2.specs.TextHashing.{hash_outcome}
 use Rattle.argon2.specs.Refusals.{answer_unless, length_refusal}
 use Rattle.argon2.specs.Settings.{SettingsValue, algorithm_named, first_fault, cost_parameters, version_numbered}
 use Rattle.argon2_io.specs.Lines.{AppendsPrefix}
+use Rattle.argon2_io.specs.declared.failure.Failure.TheVariants.{Output}
 use Rattle.argon2_tool.specs.Failures.{IsOfInput, IsOfMemory}
 use Rattle.argon2_tool.specs.declared.arguments.Command.{Command}
 use Rattle.argon2_tool.specs.declared.arguments.Command.TheVariants.{Digest, Long, Tag, Phc as PhcCommand, Verify, Help, Version as VersionCommand}
 use Rattle.argon2_tool.specs.declared.arguments.Request.{Request}
 use Rattle.argon2_tool.specs.declared.failure.Failure.{Failure}
-use Rattle.argon2_tool.specs.declared.failure.Failure.TheVariants.{Hashing, Output, Text}
+use Rattle.argon2_tool.specs.declared.failure.Failure.TheVariants.{Io, Hashing, Text}
 use Rattle.argon2_tool.specs.declared.run.TheConstants.{HELP, VERSION}
 
 -- ---- commands and their words
@@ -152,9 +153,9 @@ abbrev pub AnswersCommand : Command → Option (List ℕ) → Option (List ℕ) 
 AnswersCommand command input old new = IfSome input (λ message.
     (line : List ℕ) × Replies command message line × Appends old new (line ++ 10 ∷ []))
 
--- if the input is known, the command fails so: its line can't be written, and a known output has at most a front of
--- it, or there is no line, and the output is as before
+-- if the input is known, the command fails in one of two ways. Its line can't be written, and a known output grows by a prefix
+-- of the line. Or the command has no reply, and the output is as before.
 abbrev pub FailsBy : Command → Failure → Option (List ℕ) → Option (List ℕ) → Option (List ℕ) → Type 0
-FailsBy command Output input old new = IfSome input (λ message.
+FailsBy command (Io (Output error)) input old new = IfSome input (λ message.
     (line : List ℕ) × Replies command message line × AppendsPrefix old new (line ++ 10 ∷ []))
 FailsBy command failure input old new = IfSome input (λ message. Fails command message failure) × Keeps old new

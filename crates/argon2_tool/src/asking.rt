@@ -11,7 +11,7 @@ ghost use Rattle.argon2_tool.specs.Failures.{IsOfAsking};
 use crate::arguments::Command;
 use crate::failure::Failure;
 use crate::run::read_all;
-use argon2_io::write_bytes;
+use argon2_io::{self as io, write_bytes};
 use std::alloc::Global;
 use std::io::{Read, Write};
 
@@ -54,9 +54,9 @@ pub fn ask<R: Read, E: Write>(
     ensures asked { OnOk result (Appends (E.contents errors.old) (E.contents errors.new) (QUESTION.now ++ 10 ∷ [])) }
     ensures failed { IfErr result IsOfAsking }
 {
-    write_bytes(errors, QUESTION.as_bytes()).or(Err(Failure::Output))?;
-    errors.flush().or(Err(Failure::Output))?;
+    write_bytes(errors, QUESTION.as_bytes()).map_err(io::Failure::Output)?;
+    errors.flush().map_err(io::Failure::Output)?;
     let bytes = read_all(alloc, input);
-    write_bytes(errors, b"\n").or(Err(Failure::Output))?;
+    write_bytes(errors, b"\n").map_err(io::Failure::Output)?;
     bytes
 }

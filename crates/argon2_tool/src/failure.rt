@@ -1,23 +1,20 @@
 //! Why a command fails, and what is printed then.
 
 ghost use Rattle.std.specs.Prelude.{◌≡◌, ◌++◌};
-ghost use Rattle.argon2_tool.specs.Failures.{IsHashingFailure, IsReadFailure, IsTextFailure, failure_text};
-ghost use Rattle.argon2_tool.specs.declared.failure.Failure.TheVariants.{Memory};
+ghost use Rattle.argon2_io.specs.Failures.{IsOfReading};
+ghost use Rattle.argon2_io.specs.declared.failure.Failure.TheVariants.{Memory};
+ghost use Rattle.argon2_tool.specs.Failures.{IsHashingFailure, IsTextFailure, IsIoAnd, failure_text};
+ghost use Rattle.argon2_tool.specs.declared.failure.Failure.TheVariants.{Io};
 
 use argon2::password_hash;
+use argon2_io as io;
 use std::alloc::AllocError;
-use std::io;
-use std::io::ErrorKind;
 
 /// Why a command fails.
 #[derive(Debug, Drop)]
 pub enum Failure {
-    /// Standard input can't be read to its end.
-    Input,
-    /// Standard output can't be written.
-    Output,
-    /// A request for memory was refused.
-    Memory(AllocError),
+    /// A stream or a request for memory fails.
+    Io(io::Failure),
     /// The call that the command makes refuses.
     Hashing(argon2::Error),
     /// The call that makes or verifies a text refuses.
@@ -30,9 +27,10 @@ impl Failure {
         ensures { result.0.now ++ result.1.now ++ result.2.now ≡ failure_text self.now }
     {
         let sentence = match self {
-            Failure::Input => "standard input can't be read",
-            Failure::Output => "standard output can't be written",
-            Failure::Memory(_) => "out of memory",
+            Failure::Io(io::Failure::Input(_)) => "standard input can't be read",
+            Failure::Io(io::Failure::Output(_)) => "standard output can't be written",
+            Failure::Io(io::Failure::Memory(_)) => "out of memory",
+            Failure::Io(io::Failure::Other(what)) => what,
             Failure::Hashing(error) => error.text(),
             Failure::Text(error) => return error.text(),
         };
@@ -40,23 +38,28 @@ impl Failure {
     }
 }
 
+impl From<io::Failure> for Failure {
+    ghost from_gives = { λ failed failure. failure ≡ Io failed };
+
+    fn from(failed: io::Failure) -> Failure {
+        Failure::Io(failed)
+    }
+}
+
 impl From<AllocError> for Failure {
-    ghost from_gives = { λ refused failure. failure ≡ Memory refused };
+    ghost from_gives = { λ refused failure. failure ≡ Io (Memory refused) };
 
     fn from(refused: AllocError) -> Failure {
-        Failure::Memory(refused)
+        Failure::Io(io::Failure::Memory(refused))
     }
 }
 
 /// The failure of a read; out of memory is reported as that.
-impl From<io::Error> for Failure {
-    ghost from_gives = { IsReadFailure };
+impl From<std::io::Error> for Failure {
+    ghost from_gives = { λ error failure. IsIoAnd (IsOfReading error) failure };
 
-    fn from(error: io::Error) -> Failure {
-        match error.kind() {
-            ErrorKind::OutOfMemory => Failure::Memory(AllocError),
-            _ => Failure::Input,
-        }
+    fn from(error: std::io::Error) -> Failure {
+        Failure::Io(io::Failure::of_reading(error))
     }
 }
 
@@ -66,7 +69,7 @@ impl From<argon2::Error> for Failure {
 
     fn from(error: argon2::Error) -> Failure {
         match error {
-            argon2::Error::OutOfMemory => Failure::Memory(AllocError),
+            argon2::Error::OutOfMemory => AllocError.into(),
             error => Failure::Hashing(error),
         }
     }
@@ -78,7 +81,7 @@ impl From<password_hash::Error> for Failure {
 
     fn from(error: password_hash::Error) -> Failure {
         match error {
-            password_hash::Error::OutOfMemory => Failure::Memory(AllocError),
+            password_hash::Error::OutOfMemory => AllocError.into(),
             error => Failure::Text(error),
         }
     }

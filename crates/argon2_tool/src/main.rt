@@ -1,13 +1,10 @@
 //! `argon2-tool`: digests, tags and PHC texts of standard input, and verifying.
 #![tactic(auto)]
 
-use argon2_io::write_line;
+use argon2_io::{NoWords, words, write_line};
 use arguments::Command;
 use asking::{Awaited, ask, awaited_by};
-use failure::Failure;
-use std::alloc::AllocError;
-use std::env;
-use std::io::{Cursor, ErrorKind, IsTerminal};
+use std::io::{Cursor, IsTerminal};
 use std::process::ExitCode;
 
 mod arguments;
@@ -20,7 +17,9 @@ pub use run::run;
 fn main(rt: HostRuntime) -> ExitCode {
     let status = match words(&rt) {
         Ok(args) => start(&rt, args.as_slice()),
-        Err(refused) => run::fail(&mut rt.stderr(), Failure::Memory(refused)),
+        Err(NoWords::Memory(refused)) => run::fail(&mut rt.stderr(), refused.into()),
+        // (no command has an argument that is not UTF-8)
+        Err(NoWords::NotUtf8) => start(&rt, &[]),
     };
     ExitCode::from(status)
 }
@@ -46,19 +45,4 @@ fn start(rt: &HostRuntime, args: &[String]) -> u8 {
         _ => {}
     }
     run(rt.alloc(), args, &mut rt.reader(), &mut output, &mut errors)
-}
-
-// The arguments after the program's name; none if one is not UTF-8, since no command has such an argument.
-fn words(rt: &HostRuntime) -> Result<Vec<String>, AllocError> {
-    let mut args = Vec::new(rt.alloc());
-    match env::args(rt) {
-        Ok(words) => {
-            for word in words.skip(1) {
-                args.push(word)?;
-            }
-        }
-        Err(e) if e.kind() == ErrorKind::OutOfMemory => return Err(AllocError),
-        Err(_) => {}
-    }
-    Ok(args)
 }

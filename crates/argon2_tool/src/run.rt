@@ -13,7 +13,7 @@ use crate::failure::Failure;
 use argon2::blake2b::Blake2b;
 use argon2::blake2b_long::blake2b_long;
 use argon2::{Argon2, PasswordHasher, PasswordVerifier};
-use argon2_io::write_line;
+use argon2_io::{self as io, write_line};
 use std::alloc::Global;
 use std::io::{ErrorKind, Read, Write};
 
@@ -127,7 +127,7 @@ fn answer<R: Read, W: Write>(
     let text = reply(alloc, command, input)?;
     match write_line(output, &[text.as_str().as_bytes()]) {
         Ok(()) => Ok(()),
-        Err(_) => Err(Failure::Output),
+        Err(error) => Err(io::Failure::Output(error).into()),
     }
 }
 
@@ -186,7 +186,7 @@ fn digest<R: Read>(alloc: Global, len: usize, input: &mut R) -> Result<String, F
             Err(e) => return Err(e.into()),
         }
     }
-    Err(Failure::Input)
+    Err(io::Failure::Input(ErrorKind::Other.into()).into())
 }
 
 // The variable-length hash of a message, of `len` bytes, in hex.

@@ -8,7 +8,8 @@ use Rattle.argon2_tool.specs.Commands.{Fails, IsVerifyFault}
 use Rattle.argon2_tool.specs.Failures.{IsTextFailure}
 use Rattle.argon2_tool.specs.declared.arguments.Command.TheVariants.{Verify}
 use Rattle.argon2_tool.specs.declared.failure.Failure.{Failure}
-use Rattle.argon2_tool.specs.declared.failure.Failure.TheVariants.{Input, Output, Memory, Hashing, Text}
+use Rattle.argon2_io.specs.declared.failure.Failure.TheVariants.{Input, Output, Memory, Other}
+use Rattle.argon2_tool.specs.declared.failure.Failure.TheVariants.{Io, Hashing, Text}
 use Rattle.argon2_tool.proofs.run.verify.Goals as goal
 
 -- a refusal that is not out of memory is the text's
@@ -20,11 +21,12 @@ refused password text e own (inr (none, same)) of = rw of.0 (inr (none, grind ar
 
 fails : (text : Bor (List ℕ)) (password : List ℕ) (e : Error) (failure : Failure)
     → IsVerifyTextAnswer [] password text.now (Err e) → IsTextFailure e failure → Fails (Verify text) password failure
-fails text password e (Memory none) answer of = tt
+fails text password e (Io (Memory none)) answer of = tt
 fails text password e (Text own) answer of = refused password text.now e own answer of
 fails text password e (Hashing own) answer of = absurd of
-fails text password e Input answer of = absurd of
-fails text password e Output answer of = absurd of
+fails text password e (Io (Input error)) answer of = absurd of.0
+fails text password e (Io (Output error)) answer of = absurd of.0
+fails text password e (Io (Other what)) answer of = absurd of.0
 
 pub returns-in_err-verify_password : goal.returns-in_err-verify_password
 returns-in_err-verify_password c =
