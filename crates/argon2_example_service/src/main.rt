@@ -1,4 +1,5 @@
-//! A service whose accounts are in a file: names with passwords. It signs up a name and logs it in.
+//! What a program does first, hashing and verifying a password, and then a service whose accounts are in a file: names with
+//! passwords. The service signs up a name and logs it in.
 #![tactic(auto)]
 
 use argon2::bound::Bound;
@@ -13,9 +14,12 @@ use sqlite_std_file::Wary;
 use sqlite_store::FileStore;
 use std::random::RandomSource;
 
+mod hashing;
 mod service;
 
 fn main(rt: HostRuntime) -> anyhow::Result<()> {
+    hashing::hash_and_verify(&rt)?;
+
     let mut seed = [0; 32];
     rt.fill_bytes(&mut seed)?;
     let mut rng = ChaCha20Rng::from_seed(seed);

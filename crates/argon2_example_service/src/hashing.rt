@@ -1,12 +1,13 @@
-//! Hashes a password and verifies it.
-#![tactic(auto)]
+//! What needs no file: a password is hashed, and then verified.
 
 use argon2::{Argon2, PasswordHasher, PasswordVerifier};
 use rand_chacha::ChaCha20Rng;
 use rand_core::SeedableRng;
 use std::random::RandomSource;
 
-fn main(rt: HostRuntime) -> anyhow::Result<()> {
+/// Hashes a password under the default settings, and verifies it. It prints the length of the text to store, and then
+/// that the password is accepted.
+pub fn hash_and_verify(rt: &HostRuntime) -> anyhow::Result<()> {
     let mut seed = [0; 32];
     rt.fill_bytes(&mut seed)?;
     let mut rng = ChaCha20Rng::from_seed(seed);
