@@ -10,14 +10,15 @@
 #include <sys/random.h>
 
 _Static_assert(sizeof(argon2p_shown) == offsetof(argon2p_shown, name_len) + sizeof(struct phc_shown)
-    && offsetof(argon2p_shown, data) == offsetof(argon2p_shown, name_len) + offsetof(struct phc_shown, associated), "the same layout");
+    && offsetof(argon2p_shown, data) == offsetof(argon2p_shown, name_len) + offsetof(struct phc_shown, associated),
+    "the same layout");
 _Static_assert(sizeof(argon2p_block) == sizeof(block), "the same blocks");
 
 /* ---- structures of the caller */
 
 enum { LARGEST = 4096 }; /* of a structure: a size above it is none */
 
-/* Whether a structure is there, with `known` bytes and behind them zeros; then `own` is these bytes. */
+/* Whether a structure is given that has `known` bytes, and after them only zeros. Then `own` gets the `known` bytes. */
 static bool is_read(void *own, size_t known, const void *given) {
     size_t size = 0;
     if (given) memcpy(&size, given, sizeof size);
@@ -67,13 +68,29 @@ static argon2_context context_of(const argon2p_params *p, const void *pwd, size_
     };
 }
 
+/* Parameters that were read, and what the functions of the crate get of them. */
+struct call {
+    argon2p_params params;
+    argon2_context context;
+    struct request request;
+    struct phc_lengths lengths;
+};
+
+/* Sets the rest of a call whose parameters were read, and in which no pointer is missing. */
+static void begin_call(struct call *call, const void *pwd, size_t pwd_len, const void *salt, size_t salt_len, uint8_t *out,
+    size_t out_len) {
+    call->context = context_of(&call->params, pwd, pwd_len, salt, salt_len, out, out_len);
+    call->request = requested(&call->context, call->params.algorithm);
+    call->lengths = lengths_of(&call->params);
+}
+
 /* ---- texts */
 
-/* Writes the text of a hash under parameters into `made`, which has room for any. */
-static int encode(const argon2p_params *p, const struct request *request, bytes salt, size_t salt_len, bytes hash,
-    size_t hash_len, uint8_t *made) {
-    return argon2_c_phc_encode(request, some(p->keyid), p->keyid_len, some(p->data), p->data_len, salt, salt_len, hash, hash_len,
-        made, ARGON2P_TEXT_SIZE);
+/* Writes the text of a hash under a call's parameters into `made`, which has room for any. */
+static int encode(const struct call *call, bytes salt, size_t salt_len, bytes hash, size_t hash_len, uint8_t *made) {
+    const argon2p_params *p = &call->params;
+    return argon2_c_phc_encode(&call->request, some(p->keyid), p->keyid_len, some(p->data), p->data_len, salt, salt_len, hash,
+        hash_len, made, ARGON2P_TEXT_SIZE);
 }
 
 static bool is_drawn(uint8_t *at, size_t n) {
@@ -89,28 +106,23 @@ int argon2p_hash(const argon2p_params *params, const void *pwd, size_t pwd_len, 
     size_t room) {
     uint8_t drawn[ARGON2P_DRAWN_SALT] = {0}, tag[ARGON2P_MAX_OUTPUT] = {0}, made[ARGON2P_TEXT_SIZE];
     const bool draws = !salt && !salt_len;
-    argon2p_params p;
-    argon2_context c;
-    struct request request;
-    struct phc_lengths lengths;
-    int answer = read_params(&p, params);
+    struct call call;
+    int answer = read_params(&call.params, params);
     if (answer != ARGON2P_OK) return answer;
     if (lacks(pwd, pwd_len)) return ARGON2P_PASSWORD_NULL;
     if (lacks(salt, salt_len)) return ARGON2P_SALT_NULL;
-    answer = params_null(&p);
+    answer = params_null(&call.params);
     if (answer != ARGON2P_OK) return answer;
     if (!text) return ARGON2P_TEXT_NULL;
     if (draws) salt = drawn, salt_len = sizeof drawn;
-    c = context_of(&p, pwd, pwd_len, some(salt), salt_len, tag, hash_length(&p));
-    request = requested(&c, p.algorithm);
-    lengths = lengths_of(&p);
-    answer = argon2_c_text_refusal(&request, &lengths, salt_len, hash_length(&p), pwd_len);
+    begin_call(&call, pwd, pwd_len, some(salt), salt_len, tag, hash_length(&call.params));
+    answer = argon2_c_text_refusal(&call.request, &call.lengths, salt_len, hash_length(&call.params), pwd_len);
     if (answer != ARGON2P_OK) return answer;
-    answer = encode(&p, &request, salt, salt_len, tag, c.outlen, made); /* of a hash of zeros: it has the length */
+    answer = encode(&call, salt, salt_len, tag, call.context.outlen, made); /* of a hash of zeros: it has the length */
     if (answer == ARGON2P_OK && strlen((char *)made) >= room) answer = ARGON2P_ROOM_TOO_SHORT;
     if (answer == ARGON2P_OK && draws && !is_drawn(drawn, sizeof drawn)) answer = ARGON2P_NO_RANDOM;
-    if (answer == ARGON2P_OK) answer = hash_into(&c, p.algorithm, tag);
-    if (answer == ARGON2P_OK) answer = encode(&p, &request, salt, salt_len, tag, c.outlen, made);
+    if (answer == ARGON2P_OK) answer = hash_into(&call.context, call.params.algorithm, tag);
+    if (answer == ARGON2P_OK) answer = encode(&call, salt, salt_len, tag, call.context.outlen, made);
     if (answer == ARGON2P_OK) memcpy(text, made, strlen((char *)made) + 1);
     wipe(tag, sizeof tag), wipe(made, sizeof made);
     wipe_stack();
@@ -120,23 +132,18 @@ int argon2p_hash(const argon2p_params *params, const void *pwd, size_t pwd_len, 
 int argon2p_encode(const argon2p_params *params, const void *salt, size_t salt_len, const void *hash, size_t hash_len,
     char *text, size_t room) {
     uint8_t made[ARGON2P_TEXT_SIZE];
-    argon2p_params p;
-    argon2_context c;
-    struct request request;
-    struct phc_lengths lengths;
-    int answer = read_params(&p, params);
+    struct call call;
+    int answer = read_params(&call.params, params);
     if (answer != ARGON2P_OK) return answer;
     if (lacks(salt, salt_len)) return ARGON2P_SALT_NULL;
     if (lacks(hash, hash_len)) return ARGON2P_OUTPUT_NULL;
-    answer = params_null(&p);
+    answer = params_null(&call.params);
     if (answer != ARGON2P_OK) return answer;
     if (!text) return ARGON2P_TEXT_NULL;
-    c = context_of(&p, NULL, 0, NULL, 0, nothing, 0);
-    request = requested(&c, p.algorithm);
-    lengths = lengths_of(&p);
-    answer = argon2_c_text_refusal(&request, &lengths, salt_len, hash_len, 0);
+    begin_call(&call, NULL, 0, NULL, 0, nothing, 0);
+    answer = argon2_c_text_refusal(&call.request, &call.lengths, salt_len, hash_len, 0);
     if (answer != ARGON2P_OK) return answer;
-    answer = encode(&p, &request, some(salt), salt_len, some(hash), hash_len, made);
+    answer = encode(&call, some(salt), salt_len, some(hash), hash_len, made);
     if (answer == ARGON2P_OK && strlen((char *)made) >= room) answer = ARGON2P_ROOM_TOO_SHORT;
     if (answer == ARGON2P_OK) memcpy(text, made, strlen((char *)made) + 1);
     wipe(made, sizeof made);
@@ -145,17 +152,12 @@ int argon2p_encode(const argon2p_params *params, const void *salt, size_t salt_l
 }
 
 int argon2p_check(const argon2p_params *params) {
-    argon2p_params p;
-    argon2_context c;
-    struct request request;
-    struct phc_lengths lengths;
-    int answer = read_params(&p, params);
-    if (answer == ARGON2P_OK) answer = params_null(&p);
+    struct call call;
+    int answer = read_params(&call.params, params);
+    if (answer == ARGON2P_OK) answer = params_null(&call.params);
     if (answer != ARGON2P_OK) return answer;
-    c = context_of(&p, NULL, 0, NULL, 0, nothing, 0);
-    request = requested(&c, p.algorithm);
-    lengths = lengths_of(&p);
-    return argon2_c_params_refusal(&request, &lengths);
+    begin_call(&call, NULL, 0, NULL, 0, nothing, 0);
+    return argon2_c_params_refusal(&call.request, &call.lengths);
 }
 
 int argon2p_parse(const char *text, size_t text_len, argon2p_shown *shown) {
@@ -177,23 +179,19 @@ int argon2p_parse(const char *text, size_t text_len, argon2p_shown *shown) {
 }
 
 int argon2p_needs_rehash(const argon2p_params *wanted, const char *text, size_t text_len, int *answer) {
-    argon2p_params p;
-    argon2_context c;
-    struct request request;
-    struct phc_lengths lengths;
-    int code = read_params(&p, wanted);
+    struct call call;
+    int code = read_params(&call.params, wanted);
     if (code != ARGON2P_OK) return code;
-    p.secret = NULL, p.secret_len = 0;
-    code = params_null(&p);
+    call.params.secret = NULL, call.params.secret_len = 0;
+    code = params_null(&call.params);
     if (code != ARGON2P_OK) return code;
     if (lacks(text, text_len)) return ARGON2P_TEXT_NULL;
     if (!answer) return ARGON2P_OUTPUT_NULL;
-    c = context_of(&p, NULL, 0, NULL, 0, nothing, 0);
-    request = requested(&c, p.algorithm);
-    lengths = lengths_of(&p);
-    code = argon2_c_params_refusal(&request, &lengths);
+    begin_call(&call, NULL, 0, NULL, 0, nothing, 0);
+    code = argon2_c_params_refusal(&call.request, &call.lengths);
     if (code != ARGON2P_OK) return code;
-    code = argon2_c_phc_renewal(&request, hash_length(&p), some(p.keyid), p.keyid_len, some(p.data), p.data_len, some(text), text_len);
+    code = argon2_c_phc_renewal(&call.request, hash_length(&call.params), some(call.params.keyid), call.params.keyid_len,
+        some(call.params.data), call.params.data_len, some(text), text_len);
     wipe_stack();
     if (code < 0) return code;
     *answer = code;
@@ -260,12 +258,11 @@ size_t argon2p_block_count(uint32_t m_cost, uint32_t p_cost) {
     return p_cost >= ARGON2_MIN_LANES && p_cost <= ARGON2_MAX_LANES ? block_count(&c) : 0;
 }
 
-/* Why no tag of so many bytes is made, or the memory is not filled. `is_lent` says whether the memory is the caller's. */
-static int tag_refusal(const argon2p_params *p, const argon2_context *c, size_t out_len, size_t pwd_len, size_t salt_len, bool is_lent,
-    const void *memory, size_t blocks) {
-    const struct request request = requested(c, p->algorithm);
-    const struct phc_lengths lengths = lengths_of(p);
-    const int answer = argon2_c_tag_refusal(&request, &lengths, out_len, pwd_len, salt_len);
+/* Why no tag of `out_len` bytes is made, or the memory is not filled. `is_lent` says whether the memory is the caller's. */
+static int tag_refusal(const struct call *call, size_t out_len, size_t pwd_len, size_t salt_len, bool is_lent, const void *memory,
+    size_t blocks) {
+    const argon2_context *c = &call->context;
+    const int answer = argon2_c_tag_refusal(&call->request, &call->lengths, out_len, pwd_len, salt_len);
     if (answer != ARGON2P_OK) return answer;
     if (is_lent && blocks < block_count(c)) return ARGON2P_BLOCKS_TOO_FEW;
     if (meets_input(c, c->out, c->outlen)) return ARGON2P_OVERLAP;
@@ -285,40 +282,36 @@ static int inputs_null(const argon2p_params *p, const void *pwd, size_t pwd_len,
 int argon2p_hash_into(const argon2p_params *params, const void *pwd, size_t pwd_len, const void *salt, size_t salt_len, void *out,
     size_t out_len, argon2p_block *memory, size_t blocks) {
     const bool is_lent = memory || blocks;
-    argon2p_params p;
-    argon2_context c;
-    int answer = read_params(&p, params);
-    if (answer == ARGON2P_OK) answer = inputs_null(&p, pwd, pwd_len, salt, salt_len);
+    struct call call;
+    int answer = read_params(&call.params, params);
+    if (answer == ARGON2P_OK) answer = inputs_null(&call.params, pwd, pwd_len, salt, salt_len);
     if (answer != ARGON2P_OK) return answer;
     if (!out) return ARGON2P_OUTPUT_NULL;
     if (is_lent && !is_block(memory)) return ARGON2P_BLOCKS_NULL;
-    c = context_of(&p, pwd, pwd_len, salt, salt_len, out, out_len);
-    answer = tag_refusal(&p, &c, out_len, pwd_len, salt_len, is_lent, memory, blocks);
+    begin_call(&call, pwd, pwd_len, salt, salt_len, out, out_len);
+    answer = tag_refusal(&call, out_len, pwd_len, salt_len, is_lent, memory, blocks);
     if (answer != ARGON2P_OK) return answer;
     if (is_lent) {
-        const struct request request = requested(&c, p.algorithm);
-        answer = argon2_c_hash(&request, INPUTS(&c), (block *)memory, block_count(&c), out, out_len);
+        answer = argon2_c_hash(&call.request, INPUTS(&call.context), (block *)memory, block_count(&call.context), out, out_len);
         wipe_stack();
     } else {
-        answer = hash_into(&c, p.algorithm, out);
+        answer = hash_into(&call.context, call.params.algorithm, out);
     }
     return answer;
 }
 
 int argon2p_fill_memory(const argon2p_params *params, const void *pwd, size_t pwd_len, const void *salt, size_t salt_len,
     argon2p_block *memory, size_t blocks) {
-    argon2p_params p;
-    argon2_context c;
-    struct request request;
-    int answer = read_params(&p, params);
-    if (answer == ARGON2P_OK) answer = inputs_null(&p, pwd, pwd_len, salt, salt_len);
+    struct call call;
+    int answer = read_params(&call.params, params);
+    if (answer == ARGON2P_OK) answer = inputs_null(&call.params, pwd, pwd_len, salt, salt_len);
     if (answer != ARGON2P_OK) return answer;
     if (!is_block(memory)) return ARGON2P_BLOCKS_NULL;
-    c = context_of(&p, pwd, pwd_len, salt, salt_len, nothing, 0);
-    answer = tag_refusal(&p, &c, p.has_output_len ? p.output_len : ARGON2P_MIN_OUTPUT, pwd_len, salt_len, true, memory, blocks);
+    begin_call(&call, pwd, pwd_len, salt, salt_len, nothing, 0);
+    answer = tag_refusal(&call, call.params.has_output_len ? call.params.output_len : ARGON2P_MIN_OUTPUT, pwd_len, salt_len, true,
+        memory, blocks);
     if (answer != ARGON2P_OK) return answer;
-    request = requested(&c, p.algorithm);
-    answer = argon2_c_fill(&request, INPUTS(&c), (block *)memory, block_count(&c));
+    answer = argon2_c_fill(&call.request, INPUTS(&call.context), (block *)memory, block_count(&call.context));
     wipe_stack();
     return answer;
 }
