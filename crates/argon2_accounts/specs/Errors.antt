@@ -8,7 +8,7 @@ use Rattle.argon2_store.specs.Errors.{file_error_text, is_refusal}
 pub use Rattle.argon2_store.specs.declared.error.FileError.{FileError}
 use Rattle.argon2_store.specs.declared.error.FileError.TheVariants as file
 pub use Rattle.argon2_accounts.specs.declared.error.AccountError.{AccountError}
-pub use Rattle.argon2_accounts.specs.declared.error.AccountError.TheVariants.{Denied, OutOfMemory, File}
+pub use Rattle.argon2_accounts.specs.declared.error.AccountError.TheVariants.{Denied, NameTooLong, OutOfMemory, File}
 
 -- what a denial by the policy is called
 abbrev pub of_denial : Denial → AccountError
@@ -25,11 +25,13 @@ of_file e = File e
 -- the name, its text or the password is why the call is refused
 abbrev pub is_account_refusal : AccountError → Bool
 is_account_refusal (Denied why) = true
+is_account_refusal NameTooLong = true
 is_account_refusal OutOfMemory = false
 is_account_refusal (File e) = is_refusal e
 
 -- what an error prints
 abbrev pub account_error_text : AccountError → List ℕ
 account_error_text (Denied why) = denial_text why
+account_error_text NameTooLong = codes "name is too long"
 account_error_text OutOfMemory = codes "out of memory"
 account_error_text (File e) = file_error_text e

@@ -1,12 +1,14 @@
 //! Names with passwords in a file.
 
-ghost use Rattle.std.specs.Prelude.{◌≡◌, ◌⊎◌, IsErr, IsTrue, Ok, OnErr};
+ghost use Rattle.std.specs.Prelude.{◌≡◌, ◌≤◌, ◌<◌, ◌⊎◌, Err, IsErr, IsTrue, Ok, OnErr, length};
 ghost use Rattle.argon2_accounts.specs.Accounts.{ChangesName, DrawsForLogin, GivesPassword, LogsNameIn, RelatesNames, Replaces, Stores, TellsOf, TellsOfRenewal};
+ghost use Rattle.argon2_accounts.specs.Errors.{NameTooLong};
 ghost use Rattle.argon2_accounts.specs.Accounts.{IsClosed, IsHonest, Kept, adding, database_of, after_salt, drawn_salt, policy_value, setting};
 
 use crate::error::AccountError;
 use argon2::login::{Accepted, LoggedIn};
 use argon2_policy::Policy;
+use argon2_rows::table::LONGEST;
 use argon2_store::{AccountFile, FileError};
 use rand_core::Rng;
 use sqlite_trees::store::Store;
@@ -23,12 +25,13 @@ pub struct Accounts<'key, S: Store> {
 }
 
 impl<'key, S: Store> Accounts<'key, S> {
-    /// Gives a new name a text of a password, as [`Policy::hash_password`] makes it. The password is hashed
-    /// first, so that a name which is taken takes as long as a new one. 16 bytes are drawn from `rng`,
-    /// whatever the call returns.
+    /// Gives a new name of at most 4096 bytes a text of a password, as [`Policy::hash_password`] makes it. The
+    /// password is hashed before the name is looked up, so that the call needs as much time for a name that is taken
+    /// as for a new one. 16 bytes are drawn from `rng`, except for a name that is too long.
     ///
     /// # Errors
     /// The first of these that holds:
+    /// - [`AccountError::NameTooLong`]: the name has more than 4096 bytes. Nothing is hashed then.
     /// - those of [`Policy::hash_password`].
     /// - those of [`AccountFile::add`].
     pub fn register<R: Rng>(
@@ -37,13 +40,19 @@ impl<'key, S: Store> Accounts<'key, S> {
         name: &str,
         password: &[u8],
     ) -> Result<(), AccountError>
-        ensures call { Stores (adding name.now) (policy_value self.old.policy).target password.now
-            (drawn_salt (R.stream rng.old)) result self.old.file self.new.file }
+        ensures long { 4096 < length name.now → (result ≡ Err NameTooLong) × (self.new ≡ self.old)
+            × (rng.new ≡ rng.old) }
+        ensures call { length name.now ≤ 4096 → Stores (adding name.now)
+            (policy_value self.old.policy).target password.now (drawn_salt (R.stream rng.old)) result
+            self.old.file self.new.file }
         ensures names { RelatesNames (GivesPassword (policy_value self.old.policy) name.now password.now
             result) self.old.file self.new.file }
         ensures policy { self.new.policy ≡ self.old.policy }
-        ensures drawn { R.stream rng.new ≡ after_salt (R.stream rng.old) }
+        ensures drawn { length name.now ≤ 4096 → R.stream rng.new ≡ after_salt (R.stream rng.old) }
     {
+        if name.len() > LONGEST {
+            return Err(AccountError::NameTooLong);
+        }
         let text = self.policy.hash_password(rng, password)?;
         self.file.add(name, &text).map_err(AccountError::from)
     }

@@ -15,6 +15,8 @@ pub enum AccountError {
     /// What the name has does not accept the password, or no text is made of a password. A name that is
     /// unknown is denied by [`set_password`](crate::Accounts::set_password) too.
     Denied(Denial),
+    /// A new name has more than 4096 bytes.
+    NameTooLong,
     /// A request for memory was refused.
     OutOfMemory,
     /// The file refuses the call for another reason, or fails.
@@ -28,7 +30,7 @@ impl AccountError {
         ensures { result ≡ is_account_refusal self }
     {
         match self {
-            AccountError::Denied(_) => true,
+            AccountError::Denied(_) | AccountError::NameTooLong => true,
             AccountError::OutOfMemory => false,
             AccountError::File(error) => error.is_refusal(),
         }
@@ -41,6 +43,7 @@ impl fmt::Display for AccountError {
     fn fmt<W: fmt::Write>(&self, f: &mut fmt::Formatter<W>) -> fmt::Result {
         match self {
             AccountError::Denied(why) => write!(f, "{why}"),
+            AccountError::NameTooLong => f.write_str("name is too long"),
             AccountError::OutOfMemory => f.write_str("out of memory"),
             AccountError::File(error) => write!(f, "{error}"),
         }

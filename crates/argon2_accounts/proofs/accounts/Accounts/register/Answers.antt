@@ -5,7 +5,8 @@ pub returns-in_err-text-clause-names : goal.returns-in_err-text-clause-names
 returns-in_err-text-clause-names g c before has = (before, has, search rules)
 
 pub returns-clause-call : goal.returns-clause-call
-returns-clause-call g c = inr (c.in_ok-text.text, c.add.result, c.in_ok-text.ensures.made, search rules, c.add.ensures.call)
+returns-clause-call g c = λ short.
+    inr (c.in_ok-text.text, c.add.result, c.in_ok-text.ensures.made, search rules, c.add.ensures.call)
 
 pub returns-clause-names : goal.returns-clause-names
 returns-clause-names g c = gives_text (policy_value c.args.self.now.policy) (adding _ (text_of c.in_ok-text.text)) _
