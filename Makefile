@@ -20,7 +20,8 @@ help:
 	@echo 'make test          proves each crate from nothing, tries the wrong bodies, and runs all tests'
 	@echo 'make install       installs the commands for each level of x86-64, with their man pages and completion for bash'
 	@echo 'make libargon2     builds the library for C in out/libargon2, for this processor'
-	@echo 'make install-libargon2, make uninstall, make uninstall-libargon2'
+	@echo 'make install-libargon2 installs that library beside the one of the system, with DROP_IN=yes in its place'
+	@echo 'make uninstall, make uninstall-libargon2'
 	@echo 'make npm           builds the package for npm in out/npm'
 	@echo 'make release       makes the files of a release in out/release (build/release --help says what it needs)'
 	@echo 'make bench         times a hash beside other programs'
@@ -74,12 +75,15 @@ out/man/%: man/% VERSION
 	@mkdir -p $(@D)
 	sed 's/@VERSION@/$(VERSION)/' $< >$@
 
+# Beside the library of the system, or with DROP_IN=yes in its place.
+drop_in = $(if $(DROP_IN),--drop-in)
+
 libargon2: | needs
 	build/libargon2 out/libargon2
 install-libargon2: | needs
-	build/install-libargon2 --prefix "$(PREFIX)"
+	build/install-libargon2 $(drop_in) --prefix "$(PREFIX)"
 uninstall-libargon2:
-	build/uninstall-libargon2 --prefix "$(PREFIX)"
+	build/uninstall-libargon2 $(drop_in) --prefix "$(PREFIX)"
 npm: | needs
 	build/npm out/npm
 release: | needs
