@@ -6,8 +6,6 @@ mod options;
 pub mod run;
 mod search;
 mod stopwatch;
-#[cfg(test)]
-mod tests;
 
 pub use options::Options;
 pub use stopwatch::{Machine, Stopwatch, Times};
