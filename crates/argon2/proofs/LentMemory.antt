@@ -16,7 +16,7 @@ module _ (ctx : Context) (count : ℕ) (all : count ≡ block_count ctx) (old bl
   blocks_of-front : length blocks ≡ block_count ctx → blocks_of ctx (blocks ++ drop count old) ≡ blocks
   blocks_of-front size = ap (λ n. take n (blocks ++ drop count old)) (sym size) ∙ take-append_seam blocks (drop count old)
 
-  -- the blocks behind them stay
+  -- the blocks after them stay
   KeepsRest-behind : length blocks ≡ block_count ctx → KeepsRest ctx old (blocks ++ drop count old)
   KeepsRest-behind size = drop-append-drop count old blocks (block_count ctx) (omega (arith, all)) (size ∙ sym all)
 

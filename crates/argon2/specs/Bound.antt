@@ -26,7 +26,7 @@ pub record AsksWithin (bound : Bound) (v : Phc) : Type 0 where
   pub within : IsWithin bound parameters
   pub memory : 1024 * block_count_for parameters.m_cost parameters.p_cost ≤ 1024 * bound.m_cost
 
--- the value asks for costs within the bound, and for so many blocks
+-- the value asks for costs within the bound, and for this number of blocks
 abbrev pub AsksBlocksWithin : Bound → Phc → ℕ → Type 0
 AsksBlocksWithin bound v blocks = (asks : AsksWithin bound v)
     × (blocks ≡ block_count_for asks.parameters.m_cost asks.parameters.p_cost)

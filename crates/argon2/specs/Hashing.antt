@@ -17,7 +17,7 @@ use Rattle.argon2.specs.Steps.{reference_place, step}
 abbrev pub output_refusal : Argon2 → ℕ → Option Error
 output_refusal argon2 n = first_of (output_faults (own_parameters argon2).output_len n)
 
--- why an output of n bytes, a password, a salt or so many blocks of lent memory are refused
+-- why an output of n bytes, a password, a salt or lent memory of `blocks` blocks is refused
 abbrev pub refusal_of : Argon2 → ℕ → List ℕ → List ℕ → ℕ → Option Error
 refusal_of argon2 n password salt blocks = first_of (
     output_faults (own_parameters argon2).output_len n
@@ -48,7 +48,7 @@ IsOutputLength n = (4 ≤ n) × (n < 2 ^ 32)
 abbrev pub blocks_of : Context → Memory → Memory
 blocks_of ctx memory = take (block_count ctx) memory
 
--- The blocks behind them stay.
+-- The blocks after them stay.
 abbrev pub KeepsRest : Context → Memory → Memory → Type 0
 KeepsRest ctx old new = drop (block_count ctx) new ≡ drop (block_count ctx) old
 
@@ -60,7 +60,7 @@ KeepsOtherColumns ctx old new =
     ≡ slice_index_or old (lane * lane_length ctx + column) []
 
 -- The costs are accepted; the first blocks hold the matrix for a tag of n bytes; the list, if it has a place for each block,
--- holds the references; the blocks behind are unchanged.
+-- holds the references; the blocks after them are unchanged.
 pub record FillsFront (ctx : Context) (password salt : List ℕ) (n : ℕ) (old new : Memory) (places places' : List ℕ) : Type 0
   where
     pub sizes : HasSizes ctx

@@ -13,12 +13,12 @@ use Rattle.argon2.specs.declared.params.builder.ParamsBuilder.{ParamsBuilder}
 
 -- ---- key identifiers and associated data
 
--- the bytes that a value shows, at most so many
+-- the bytes that a value shows, which are at most `most`
 pub record AreBytes (most : ℕ) (own bytes : List ℕ) : Type 0 where
   pub value : bytes ≡ own
   pub fits : length own ≤ most
 
--- a key identifier or associated data of these bytes, or this refusal of more than so many
+-- a key identifier or associated data of these bytes, or the refusal `fault` of more than `most` bytes
 abbrev pub IsOfBytes : {X : Type 0} → (X → List ℕ) → ℕ → Error → List ℕ → Result X Error → Type 0
 IsOfBytes view most fault bytes (Ok x) = view x ≡ bytes
 IsOfBytes view most fault bytes (Err e) = (e ≡ fault) × (most < length bytes)

@@ -17,19 +17,19 @@ abbrev pub answer_unless : {A : Type 0} → Option Error → A → Result A Erro
 answer_unless None value = Ok value
 answer_unless (Some fault) value = Err fault
 
--- an output of so many bytes, if the parameters set the length n or none
+-- the faults of an output of `output` bytes, if the parameters set the length n or none
 abbrev pub output_faults : Option ℕ → ℕ → List (Bool × Error)
 output_faults n output =
     (nat_lt output (unwrap_or n 4), OutputTooShort)
     ∷ (nat_lt (unwrap_or n max_len) output, OutputTooLong) ∷ []
 
--- a password and a salt of so many bytes
+-- the faults of a password of `password` bytes and a salt of `salt` bytes
 abbrev pub input_faults : ℕ → ℕ → List (Bool × Error)
 input_faults password salt =
     (nat_lt max_len password, PwdTooLong)
     ∷ (nat_lt salt 8, SaltTooShort) ∷ (nat_lt max_len salt, SaltTooLong) ∷ []
 
--- memory of so many blocks, if so many are filled
+-- the fault of `lent` blocks of memory, if `wanted` blocks are filled
 abbrev pub memory_faults : ℕ → ℕ → List (Bool × Error)
 memory_faults wanted lent = (nat_lt lent wanted, MemoryTooLittle) ∷ []
 
@@ -37,7 +37,7 @@ memory_faults wanted lent = (nat_lt lent wanted, MemoryTooLittle) ∷ []
 abbrev pub length_refusal : Option ℕ → ℕ → ℕ → ℕ → Option Error
 length_refusal n output password salt = first_of (output_faults n output ++ input_faults password salt)
 
--- the refusal with so many bytes of associated data, which are checked first
+-- as `length_refusal`, after the length of the associated data, `associated` bytes, is checked
 abbrev pub data_refusal : ℕ → Option ℕ → ℕ → ℕ → ℕ → Option Error
 data_refusal associated n output password salt =
     if nat_lt max_len associated then Some AdTooLong else length_refusal n output password salt

@@ -39,7 +39,8 @@ pub record IsPlaceFor (ctx : Context) (lane column other place : ℕ) : Type 0 w
 
 -- ---- what calls write
 
--- costs that are not refused, columns 0 and 1 of each lane of so many blocks, and all other blocks as before
+-- The costs are not refused. Columns 0 and 1 of each lane are written, where a lane has `width` blocks. All other blocks are as
+-- before.
 pub record BeginsLanes (ctx : Context) (width : ℕ) (first : FirstColumns) (old new : Memory) : Type 0 where
   pub sizes : HasSizes ctx
   pub size : length new ≡ length old

@@ -73,12 +73,12 @@ pub record IsTarget (target : TargetValue) : Type 0 where
 
 -- ---- what hashing to a text answers
 
--- a salt and a hash of so many bytes
+-- the faults of a salt of `salt` bytes and a hash of `hash` bytes
 abbrev pub text_faults : ℕ → ℕ → List (Bool × Fault)
 text_faults salt hash =
     (nat_lt salt 8, bad_salt) ∷ (nat_lt 48 salt, bad_salt) ∷ (nat_lt 64 hash, bad_output_size) ∷ []
 
--- a password of so many bytes
+-- the fault of a password of `password` bytes
 abbrev pub password_faults : ℕ → List (Bool × Fault)
 password_faults password = (nat_lt max_len password, bad_password) ∷ []
 

@@ -70,7 +70,7 @@ Fills ctx pass done done' memory memory' places places' = (first : FirstColumns)
 abbrev pub columns_before : Context → ℕ → ℕ → ℕ
 columns_before ctx pass slice = (slice + 1) * segment_length ctx - turn_count ctx pass slice
 
--- how many of each are made when the lanes before one have finished the slice and that one has so many
+-- how many columns of lane `other` are made, if lanes are filled in order and `lane` has `column` columns
 abbrev pub in_order : Context → ℕ → ℕ → ℕ → ℕ → ℕ → ℕ
 in_order ctx pass slice lane column other =
     if nat_lt other lane then (slice + 1) * segment_length ctx
@@ -78,7 +78,7 @@ in_order ctx pass slice lane column other =
 
 -- ---- the mixings
 
--- One list of places, and so many more mixings
+-- the same list of places, and n more mixings
 pub record Watches (n : ℕ) (old new : Watch) : Type 0 where
   pub list : new.positions.ghost_name ≡ old.positions.ghost_name
   pub count : new.work ≡ old.work + n

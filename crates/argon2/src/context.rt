@@ -292,7 +292,7 @@ impl<'key> Argon2<'key> {
     /// Writes the tag as [`hash_password_into_with_memory`](Argon2::hash_password_into_with_memory)
     /// does, and into `positions` which block each block refers to. Returns how often two blocks
     /// were mixed: once for each block but those of columns 0 and 1 of pass 0, and twice for each
-    /// address block (RFC 9106, section 3.4.1.2), of which one serves 128 columns of a segment.
+    /// address block (RFC 9106, section 3.4.1.2). One address block serves 128 columns of a segment.
     ///
     /// `positions` has an entry for each block of each pass. If a lane has q columns, the block of a
     /// lane and a column is at place lane * q + column of the memory. If there are b blocks, entry

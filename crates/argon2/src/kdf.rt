@@ -14,7 +14,7 @@ pub trait Kdf {
     // The lengths of a password, of a salt and of a key that are taken.
     ghost takes: { Self → ℕ → ℕ → ℕ → Type 0 };
 
-    // The key of so many bytes of a password and a salt.
+    // The key that is made of a password and a salt, by its length.
     ghost key_of: { Self → List ℕ → List ℕ → ℕ → List ℕ };
 
     /// Writes the key of a password and a salt into `out`, as many bytes as it has. The memory for

@@ -29,7 +29,7 @@ Renews name did w before after = after ≡ before
 abbrev pub TellsOf : Result (Unit {0}) AccountError → Result (Unit {0}) FileError → Type 0
 TellsOf result done = result ≡ result_map_both (λ x. x) of_file done
 
--- so is that of a login whose fresh text was to be written, which is also accepted without it
+-- the same for a login: it is accepted even if the fresh text could not be written
 abbrev pub TellsOfRenewal : Result Accepted AccountError → Result (Unit {0}) FileError → Type 0
 TellsOfRenewal result (Ok _) = result ≡ Ok Rehashed
 TellsOfRenewal result (Err e) = (result ≡ Ok Kept) ⊎ (result ≡ Err (of_file e))

@@ -1,4 +1,4 @@
--- What is known after so many bytes.
+-- What is known after the bytes that were read.
 use Rattle.std.specs.Prelude.{◌≡◌, ◌≢◌, ◌⊎◌, ◌<◌, ◌+◌, ◌==◌, ℕ, nat_le, get_or, Bool, if◌then◌else◌, Option, List, [], ◌∷◌, ◌++◌, length}
 use Rattle.std.specs.Bool.{MatchBool}
 use Rattle.std.specs.BTreeSet.{BTreeSet, contains_by}

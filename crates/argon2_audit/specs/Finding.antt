@@ -45,7 +45,7 @@ werkzeug = codes "scrypt:" ∷ codes "pbkdf2:sha1:" ∷ codes "pbkdf2:sha256:" �
 abbrev pub is_werkzeug : List ℕ → Bool
 is_werkzeug line = begins_any werkzeug line && has_numbers (after_any werkzeug line)
 
--- where a field ends that begins with a quote: at a separator behind an even number of quotes
+-- where a field ends that begins with a quote: at a separator after an even number of quotes
 abbrev pub quoted_end : ℕ → Bool → List ℕ → ℕ
 quoted_end separator is_odd [] = 0
 quoted_end separator is_odd (byte ∷ rest) = if (byte == separator) && not is_odd then 0
@@ -60,7 +60,7 @@ field_end separator line = if begins_any ((34 ∷ []) ∷ []) line then quoted_e
 abbrev pub strip_quotes : List ℕ → List ℕ
 strip_quotes field = if begins_any ((34 ∷ []) ∷ []) field then strip_last 34 (after_any ((34 ∷ []) ∷ []) field) else field
 
--- the field with so many before it
+-- the field that has this number of fields before it
 abbrev pub field_numbered : ℕ → ℕ → List ℕ → Option (List ℕ)
 field_numbered zero separator line = Some (strip_quotes (take (field_end separator line) line))
 field_numbered (suc before) separator line = if nat_lt (field_end separator line) (length line)

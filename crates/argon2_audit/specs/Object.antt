@@ -63,7 +63,7 @@ IsAudit options input old new clean = (tally : Tally) × IfSome input (λ bytes.
 
 -- ---- what calls write of it
 
--- tokens are added behind what is there
+-- tokens are added after what is there
 pub record Adds (old new : Written) (added : List Token) : Type 0 where
   pub before : new.before ≡ old.before
   pub tokens : new.tokens ≡ old.tokens ++ added
@@ -80,7 +80,7 @@ pub record AddsValue (old new : Written) (most : ℕ) (value : Json) : Type 0 wh
 abbrev pub members_now : List (Bor (List ℕ) × Value) → Members
 members_now members = members_of (map (λ (m : Bor (List ℕ) × Value). (m.0.now, m.1)) members)
 
--- flat items were written behind these tokens, and more may follow
+-- flat items were written after these tokens, and more may follow
 pub record HasItems (front tokens : List Token) : Type 0 where
   pub all : Items → Items
   pub reads : (more : Items) → tokens ++ items_tokens more ≡ front ++ items_tokens (all more)

@@ -62,7 +62,7 @@ fn are_numbers(text: &[u8]) -> bool
         .all(|byte| byte.is_ascii_digit() || *byte == b':')
 }
 
-// The field with so many before it.
+// The field that has `before` fields before it.
 fn field_numbered(line: &[u8], before: u32, separator: u8) -> Option<&[u8]>
     ensures { option_copied result ≡ field_numbered before separator line.now }
 {

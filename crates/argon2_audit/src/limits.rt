@@ -71,7 +71,7 @@ impl Entry {
             || self.has_other_key(limits)
     }
 
-    /// Whether limits ask for another key identifier. A text without one has the one of no bytes.
+    /// Whether the text's key identifier differs from the required one. A text without one counts as having an empty one.
     pub fn has_other_key(&self, limits: &Limits) -> bool
         ensures { result ≡ has_other_key limits.now self.now }
     {

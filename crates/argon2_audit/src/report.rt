@@ -26,7 +26,7 @@ pub struct Place<'a> {
 }
 
 impl Place<'_> {
-    /// The place of the line with this number of all. This place is behind the lines of the files before.
+    /// The place of the line with this number among all lines, if this place is after the lines of the files before.
     pub fn at_line(self, line: u64) -> Self {
         Place {
             file: self.file,

@@ -15,7 +15,7 @@ use std::alloc::Global;
 use std::io;
 use std::io::{ErrorKind, Read, Write};
 
-/// Something that is read, of which no read crosses from one file into the next.
+/// Input that consists of files, one after the other. A single read never spans two files.
 pub trait Named {
     /// The path of the file that is read or can't be opened, or `standard input`.
     fn name(&self) -> &str;
@@ -152,7 +152,8 @@ fn session_of<R: Read + Named, S: Remarks, E: Write>(
     Err(Failure::Other("the input has too many pieces"))
 }
 
-// The number of a file, and how many lines are before it: with this number, once so many lines were read.
+// The number of a file, and how many lines are before it, when `lines` lines were read. Both change only if `number` is that of
+// another file.
 fn before_file(before: (usize, u64), number: usize, lines: u64) -> (usize, u64) {
     if before.0 == number {
         before
@@ -161,7 +162,7 @@ fn before_file(before: (usize, u64), number: usize, lines: u64) -> (usize, u64) 
     }
 }
 
-// The place behind so many lines, before the first of the file that is read.
+// The file that is read, and the place in it after `line` lines in all.
 fn file_of<R: Named>(input: &R, line: u64) -> Place<'_> {
     let file = if input.number() > 0 {
         Some(input.name())

@@ -16,7 +16,7 @@ use std::alloc::{AllocError, Global};
 /// The most bytes that a line may have, without its line feed.
 pub const LONGEST: usize = 4096;
 
-/// What was read of a line, of which no more is kept than a line may have.
+/// The beginning of a line, up to the most bytes that a line may have. `is_long` says that further bytes were dropped.
 #[derive(Drop)]
 pub struct Line {
     bytes: Vec<u8>,
@@ -92,7 +92,7 @@ impl Session {
         }
     }
 
-    /// Takes more bytes of the file that begins behind a place, with remarks on the lines that end in them.
+    /// Takes more bytes of the file that begins after a place, with remarks on the lines that end in them.
     pub fn add<S: Remarks>(
         &mut self,
         bytes: &[u8],

@@ -66,7 +66,7 @@ for it. All salts are kept, to find equal ones.
 The status is 0 if each line is sound and no two salts are equal, 1 if that is not so, 2 if the arguments are
 wrong, and 3 if a file, reading, writing or a request for memory fails, which standard error says.";
 
-/// Reads the options, of which the last counts if one is given twice, and the names of files, `-` if there are none.
+/// Reads the options, and the names of files, `-` if there are none. If an option is given twice, the last one counts.
 ///
 /// # Errors
 /// The exit status, once a page is written or `errors` says why.

@@ -18,7 +18,7 @@ enum Input {
 pub struct Inputs<'a> {
     rt: &'a HostRuntime,
     names: &'a [&'a str],
-    // How many of them were opened, the last of which is read.
+    // How many of them were opened. The last one is read.
     opened: usize,
     input: Option<Input>,
     ends_line: bool,

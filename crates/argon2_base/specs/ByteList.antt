@@ -9,11 +9,11 @@ use Rattle.argon2_base.specs.declared.error.B64Error.TheVariants.{InvalidEncodin
 abbrev pub list_bytes : {N : ℕ} → ByteList N → List ℕ
 list_bytes list = take list.len list.bytes
 
--- the length of the text of so many bytes
+-- the length of the text of n bytes
 abbrev pub base64_length : ℕ → ℕ
 base64_length n = (4 * n + 2) / 3
 
--- why a text is refused if the longest has so many bytes: its length comes first
+-- why a text is refused, if the longest text has `longest` bytes. The length is checked first.
 abbrev pub IsBase64Cause : ℕ → List ℕ → B64Error → Type 0
 IsBase64Cause longest text InvalidLength = longest < length text
 IsBase64Cause longest text InvalidEncoding =

@@ -20,7 +20,7 @@ half_count n = (n + 31) / 32 - 2
 abbrev pub half : List ℕ → ℕ → List ℕ
 half first i = take 32 (chain first i)
 
--- W_1 || .. || W_r || V_(r+1), of which the last has n - 32 r bytes
+-- W_1 || .. || W_r || V_(r+1), where V_(r+1) has n - 32 r bytes
 abbrev pub pieces : ℕ → List ℕ → List ℕ
 pieces n first =
     let r : ℕ = half_count n in

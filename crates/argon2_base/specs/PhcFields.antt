@@ -26,7 +26,7 @@ abbrev pub HasNoItemFirst : List (List ℕ) → Type 0
 HasNoItemFirst fs = (p : Pair) (more : List (List ℕ)) → fs ≡ item p ∷ more → ⊥
 
 -- The answer of a reader of bytes, at least low and at most high of them, given the fields left: the
--- bytes if strict Base64 of so many stands first, none if nothing is left, else a refusal.
+-- bytes if the first field is strict Base64 of such a number, none if no field is left, else a refusal.
 pub record IsBytesField (low high : ℕ) (left : List (List ℕ))
     (r : Result (Option (List ℕ) × Option (Bor (List ℕ))) Error) : Type 0
   where

@@ -67,7 +67,7 @@ pairs_eq_equiv = lists_equiv (and_equiv (on_equiv (λ (p : Pair). p.0) nat_list_
 abbrev pub Lacks : ℕ → List ℕ → Type 0
 Lacks c text = AllByRecursion (λ x. (x == c) ≡ false) text
 
--- what is before and behind the first such byte, if there is one
+-- what is before and after the first such byte, if there is one
 abbrev pub IsCut : ℕ → List ℕ → Option (Bor (List ℕ) × Bor (List ℕ)) → Type 0
 IsCut c text None = Lacks c text
 IsCut c text (Some x) = (text ≡ x.0.now ++ c ∷ x.1.now) × Lacks c x.0.now
@@ -139,7 +139,7 @@ abbrev pub fields : Phc → List (List ℕ)
 fields v = v.algorithm ∷ (field version_text v.version ++ (list_field v.params
     ++ (field strict_base64 v.salt ++ field strict_base64 v.hash)))
 
--- each field behind a `$`
+-- each field after a `$`
 abbrev pub fields_text : List (List ℕ) → List ℕ
 fields_text fs = flat_map (λ f. 36 ∷ f) fs
 

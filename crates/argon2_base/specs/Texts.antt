@@ -19,7 +19,7 @@ alphabet = codes "ABCDEFGHIJKLMNOPQRSTUVWXYZabcdefghijklmnopqrstuvwxyz0123456789
 unfoldable pub strict_base64 : List ℕ → List ℕ
 strict_base64 bytes = encode_symbols alphabet bytes
 
--- The bytes, at most so many, whose strict Base64 the text is: `short_bytes_found` and `short_bytes_again` of
+-- The bytes whose strict Base64 the text is, if they are at most `most`. `short_bytes_found` and `short_bytes_again` of
 -- proofs/phc_lemmas/Base64Lemmas say so. The definition is the library's decoder, so that it computes.
 abbrev pub short_bytes : ℕ → List ℕ → Option (List ℕ)
 short_bytes most text = option_and_then

@@ -50,7 +50,7 @@ impl Block {
     /// The size of a block in bytes.
     pub const SIZE: usize = 1024;
 
-    /// The words, by which [`mix_words`] and [`xor_words`] take a block.
+    /// The words, as [`mix_words`] and [`xor_words`] take a block.
     pub fn as_words(&self) -> &Words
         ensures { result.now ≡ self.now }
     {

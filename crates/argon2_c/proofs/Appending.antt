@@ -1,10 +1,10 @@
--- Text that is written behind text.
+-- Text that is written after text.
 use Rattle.std.proofs.Common.{◌≡◌, ℕ, ◌-◌, ◌++◌, List, [], length, length-append, length-drop, sym, ap, ◌∙◌, arith}
 use Rattle.std.specs.Prelude.{drop, take}
 use Rattle.std.proofs.Math.Seq.{take-append_seam}
 use Rattle.std.proofs.lemmas.List.{append-nil, append_assoc, drop-drop, drop_all, drop_at, take_all}
 
--- a write of `more` to the front of all that is behind n bytes
+-- a write of `more` right after the first n bytes
 pub put_behind : (n k : ℕ) (old new more front first : List ℕ) → k ≡ length old - n → length front ≡ n →
     old ≡ front ++ drop (length front) first → new ≡ more ++ drop (length more) (take k (drop n old)) →
     take n old ++ (new ++ drop k (drop n old)) ≡ (front ++ more) ++ drop (length (front ++ more)) first

@@ -3,7 +3,7 @@ use Rattle.std.proofs.Common.{◌≡◌, ℕ, ◌+◌, ◌*◌, ◌/◌, ◌++�
 use Rattle.argon2_base.specs.Texts.{strict_base64}
 use Rattle.argon2_base.proofs.phc_lemmas.Base64Lemmas.{length-strict_base64}
 
--- a text with this in front of its salt
+-- a text with this before its salt
 pub length-text : (front : List ℕ) (text : List ℕ → List ℕ) (salt tag : List ℕ) → ((left : List ℕ) → front ++ left ≡ text left)
     → length (text (strict_base64 salt ++ 36 ∷ strict_base64 tag))
     ≡ length front + (4 * length salt + 2) / 3 + (4 * length tag + 2) / 3 + 1

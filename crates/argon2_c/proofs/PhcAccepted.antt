@@ -82,7 +82,7 @@ admitted_by : (bound : PhcBound) (v : Phc) (parameters : Parameters) (stored : S
     → admitted_of bound v ≡ Ok stored
 admitted_by bound v parameters stored asked inside is fits = rw (is, asked, inside, fits) refl
 
--- a value that is admitted for a password and two secrets of so many bytes, and what it is verified by
+-- a value that is admitted for the lengths of a password and of two secrets, and what it is verified by
 pub record Admitted (bound : PhcBound) (password secret old_secret : ℕ) (v : Phc) : Type 0 where
   pub stored : StoredValue
   pub admits : admitted_of bound v ≡ Ok stored

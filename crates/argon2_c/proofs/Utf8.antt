@@ -12,7 +12,7 @@ use Rattle.argon2_base.specs.Texts.{strict_base64}
 use Rattle.argon2_base.proofs.phc_lemmas.Base64Lemmas.{IsUtf8-strict_base64}
 use Rattle.argon2_c.specs.Texts.{Said, IsSaid, spelling, version_part}
 
--- a mark in front of text
+-- a mark before text
 IsUtf8-mark : (s t : List ℕ) → list_all (λ x. nat_lt x 128) s ≡ true → IsUtf8 t → IsUtf8 (s ++ t)
 IsUtf8-mark [] t h k = k
 IsUtf8-mark (c ∷ s) t h k =
@@ -20,13 +20,13 @@ IsUtf8-mark (c ∷ s) t h k =
     let one = IsAscii-cons c [] (ltb-true c 128 parts.0) IsAscii-nil in
     IsUtf8-append (c ∷ []) (s ++ t) (IsUtf8-from_ascii (c ∷ []) one) (IsUtf8-mark s t parts.1 k)
 
--- a mark and a number in front of text
+-- a mark and a number before text
 IsUtf8-number : (s : List ℕ) (n : ℕ) (t : List ℕ) → list_all (λ x. nat_lt x 128) s ≡ true → n < 2 ^ 32 → IsUtf8 t
     → IsUtf8 (s ++ (decimal n ++ t))
 IsUtf8-number s n t h small k =
     IsUtf8-mark s _ h (IsUtf8-append (decimal n) t (IsUtf8-from_ascii (decimal n) (IsAscii-decimal n (omega arith))) k)
 
--- a version in front of text
+-- a version before text
 IsUtf8-version_part : (o : Option ℕ) (t : List ℕ) → IfSome o (λ n. n < 2 ^ 32) → IsUtf8 t → IsUtf8 (version_part o t)
 IsUtf8-version_part None t h k = k
 IsUtf8-version_part (Some n) t h k = IsUtf8-number (codes "v=") n _ refl h (IsUtf8-mark (codes "$") t refl k)

@@ -46,7 +46,7 @@ code_of (Err code) next = code
 
 -- ---- what a text shows
 
--- how many the bytes are, and zeros behind them in room for so many
+-- n is the number of the bytes, and `room`, which holds `most` bytes, has them and zeros after them
 abbrev pub Shows : ℕ → List ℕ → ℕ → List ℕ → Type 0
 Shows most bytes n room = (n ≡ length bytes) × (room ≡ bytes ++ replicate (most - length bytes) 0)
 
@@ -135,7 +135,7 @@ admitted_of bound v = coded (asked_of v) (λ parameters.
     if is_sized bound stored.hash then Ok stored else Err OUTPUT_OUT_OF_BOUND)
     else Err ABOVE_BOUND)
 
--- why a password and two secrets of so many bytes are refused
+-- the faults of the lengths of a password and of two secrets
 abbrev pub key_faults : ℕ → ℕ → ℕ → List (Bool × ℤ)
 key_faults password secret old_secret =
     (nat_lt max_len password, PWD_TOO_LONG)
@@ -143,12 +143,12 @@ key_faults password secret old_secret =
     ∷ (nat_lt max_len old_secret, SECRET_TOO_LONG)
     ∷ []
 
--- 0, or why a value is not admitted for a password and two secrets of so many bytes
+-- 0, or why a value is not admitted for the lengths of a password and of two secrets
 abbrev pub admit_code : PhcBound → ℕ → ℕ → ℕ → Phc → ℤ
 admit_code bound password secret old_secret v =
     code_of (admitted_of bound v) (λ _. unwrap_or (first_of (key_faults password secret old_secret)) OK)
 
--- the request that is shown, with so many threads
+-- the request that is shown, with this number of threads
 abbrev pub admitted_request : ℕ → PhcShown → Request
 admitted_request threads shown = record {
   algorithm = shown.algorithm;
@@ -166,7 +166,7 @@ admitted_request threads shown = record {
   has_free = false;
 }
 
--- what admitting answers for a password and two secrets of so many bytes: the code, and what is then shown
+-- what admitting answers for the lengths of a password and of two secrets: the code, and what is then shown
 pub record IsAdmitted (bound : PhcBound) (text : List ℕ) (password secret old_secret : ℕ) (code : ℤ) (shown : PhcShown) : Type 0
   where
     pub said : (v : Phc) → IsPhcText text v → code ≡ admit_code bound password secret old_secret v

@@ -34,14 +34,14 @@ own_faults r most_associated keyid associated secret =
     ∷ (nat_lt max_len secret, SECRET_TOO_LONG)
     ∷ []
 
--- Why parameters are refused, of which outputs have this length, if it is set: the costs and the length as by
+-- Why parameters are refused. If `output` is set, outputs have this length. The costs and the length are refused as by
 -- `Params::new` of argon2, and then the rest.
 abbrev pub params_refusal : Request → Option ℕ → ℕ → ℕ → ℕ → ℕ → Option ℤ
 params_refusal r output most_associated keyid associated secret =
     option_or (option_map error_code (first_fault r.m_cost r.t_cost r.lanes output))
     (first_of (own_faults r most_associated keyid associated secret))
 
--- why no text is made with a salt and a hash of so many bytes, of a password of so many
+-- the faults of a text, by the lengths of its salt and its hash and the length of the password
 abbrev pub making_faults : ℕ → ℕ → ℕ → List (Bool × ℤ)
 making_faults salt hash password =
     (nat_lt salt 8, SALT_TOO_SHORT)
@@ -51,7 +51,7 @@ making_faults salt hash password =
     ∷ (nat_lt max_len password, PWD_TOO_LONG)
     ∷ []
 
--- why no tag of so many bytes is made of a password and a salt of so many
+-- the faults of a tag of `out` bytes, by this length and those of the password and the salt
 abbrev pub tag_faults : Option ℕ → ℕ → ℕ → ℕ → List (Bool × ℤ)
 tag_faults output out password salt =
     (nat_lt out (unwrap_or output 4), OUTPUT_TOO_SHORT)

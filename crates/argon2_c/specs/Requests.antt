@@ -19,7 +19,7 @@ request_context request secret associated = record {
   associated = associated;
 }
 
--- why a request for so many bytes of output, password, salt, secret and associated data is refused,
+-- why a request is refused, by the lengths of output, password, salt, secret and associated data,
 -- in the order of argon2.h's library; a variant and a version that there are not come last
 abbrev pub request_faults : Request → ℕ → ℕ → ℕ → ℕ → ℕ → List (Bool × ℤ)
 request_faults r output password salt secret associated =
@@ -73,7 +73,7 @@ pub record IsFaultless (r : Request) (output password salt secret associated : �
   pub is_variant : r.algorithm ≤ 2
   pub is_version : (r.version ≡ 16) ⊎ (r.version ≡ 19)
 
--- what hashing on so many blocks answers: the code, and the tag in place of what was in `out`
+-- what hashing on `blocks` blocks answers: the code, and the tag in place of what was in `out`
 pub record IsTagged (r : Request) (password salt secret associated : List ℕ) (blocks : ℕ) (out : List ℕ)
     (code : ℤ) (tag : List ℕ) : Type 0 where
   pub taken : (code ≡ OK)

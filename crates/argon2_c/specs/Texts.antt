@@ -89,7 +89,7 @@ pub record IsShown (v : Said) (shown : Shown) : Type 0 where
   pub salt : shown.salt ≡ length v.salt
   pub tag : shown.tag ≡ length v.tag
 
--- behind a text that ends at `at`, more of it is written up to `end`, and nothing else
+-- after a text that ends at `at`, more of it is written up to `end`, and nothing else
 abbrev pub WritesBehind : ℕ → List ℕ → List ℕ → List ℕ → ℕ → Type 0
 WritesBehind at more old new end = (front first : List ℕ) → length front ≡ at → IsWrittenOver front first old
     → (length (front ++ more) ≡ end) × IsWrittenOver (front ++ more) first new

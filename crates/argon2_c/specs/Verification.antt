@@ -1,4 +1,4 @@
--- The calls by which the text of a hash is verified, one after another: for argon2.h, and for argon2_phc.h.
+-- The calls that verify the text of a hash, one after another: for argon2.h, and for argon2_phc.h.
 use Rattle.std.specs.Prelude.{◌≡◌, ◌⊎◌, ℕ, ◌*◌, ◌≤◌, Bool, ℤ, None, List, [], drop, length, take}
 use Rattle.argon2.specs.Bound.{AcceptsWithin}
 use Rattle.argon2.specs.Refusals.{max_len}

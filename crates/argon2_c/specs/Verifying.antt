@@ -42,7 +42,7 @@ abbrev pub said_code : ℕ → ℕ → Bool → Said → ℤ
 said_code algorithm password lacks_password v = unwrap_or (first_of
     (request_faults (shown_request algorithm lacks_password v) (length v.tag) password (length v.salt) 0 0)) OK
 
--- what reading answers: the code, what is shown, and what is then in the room that was lent, for a password of so many bytes
+-- what reading answers for a password of `password` bytes: the code, what is shown, and what is then in the room that was lent
 pub record IsDecoded (algorithm : ℕ) (has_text : Bool) (text : List ℕ) (password : ℕ) (lacks_password : Bool) (lent : List ℕ)
     (code : ℤ) (shown : Shown) (room : List ℕ) : Type 0 where
   pub refused : (e : ℤ) → call_refusal algorithm has_text (length text) password (length lent) ≡ Some e → code ≡ e

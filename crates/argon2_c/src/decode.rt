@@ -134,7 +134,7 @@ fn field<'a>(text: &'a str, name: &str, mark: char) -> Option<(u32, &'a str)>
     number(behind(text, name)?, mark)
 }
 
-// The number in front of a mark, and what follows.
+// The number before a mark, and what follows.
 #[tactic(auto, using(argon2_base::proofs::phc_lemmas::ValueCharacters::decimal_chars))]
 fn number(text: &str, mark: char) -> Option<(u32, &str)>
     requires { (mark < 128) × (is_value_char mark ≡ false) }

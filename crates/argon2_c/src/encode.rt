@@ -14,7 +14,7 @@ use arrayvec::ArrayString;
 use base64::engine::general_purpose::STANDARD_NO_PAD;
 use itoa::Buffer;
 
-/// Writes a hash as a text with a zero byte behind it, and returns 0. Returns -31 if there is no such
+/// Writes a hash as a text with a zero byte after it, and returns 0. Returns -31 if there is no such
 /// variant or too little room; `out` is then as before.
 #[unsafe(no_mangle)]
 pub extern "C" fn argon2_c_encode(request: &Request, salt: &[u8], tag: &[u8], out: &mut [u8]) -> i32
@@ -47,7 +47,7 @@ pub extern "C" fn argon2_c_encode(request: &Request, salt: &[u8], tag: &[u8], ou
     OK
 }
 
-// What a text has in front of its salt.
+// What a text has before its salt.
 fn front(
     algorithm: Algorithm,
     version: u32,
@@ -79,7 +79,7 @@ fn push_number(text: &mut ArrayString<64>, name: &str, n: u32)
     text.push_str(Buffer::new().format(n));
 }
 
-/// Writes bytes from a place on, and returns the place behind them.
+/// Writes bytes from a place on, and returns the place after them.
 pub fn put(bytes: &[u8], out: &mut [u8], at: usize) -> usize
     requires { at + length bytes.now ≤ length out.old }
     ensures at { result ≡ at + length bytes.now }
@@ -99,7 +99,7 @@ fn put_base64(bytes: &[u8], out: &mut [u8], at: usize) -> usize
     at + STANDARD_NO_PAD.encode_slice(bytes, &mut out[at..]).unwrap()
 }
 
-/// How many bytes a text takes with the zero byte behind it, at version 19; 0 if there is no such
+/// How many bytes a text takes with the zero byte after it, at version 19; 0 if there is no such
 /// variant.
 #[unsafe(no_mangle)]
 pub extern "C" fn argon2_c_encoded_length(
@@ -122,7 +122,7 @@ pub extern "C" fn argon2_c_encoded_length(
     text_len(front.as_str().len(), salt_len as usize, tag_len as usize) as usize + 1
 }
 
-// How many bytes a text has, with so many in front of its salt.
+// How many bytes a text has, with `front` bytes before its salt.
 fn text_len(front: usize, salt: usize, tag: usize) -> u128
     ensures { result ≡ front + (4 * salt + 2) / 3 + (4 * tag + 2) / 3 + 1 }
 {

@@ -79,7 +79,7 @@ pub extern "C" fn argon2_c_fill(
 }
 
 /// Hashing as asked for, if the request has no fault, null pointers, threads, callbacks and the lengths of output,
-/// password and salt aside. Each call passes the associated data, which has so many bytes.
+/// password and salt aside. Each call passes the associated data, which has `associated` bytes.
 pub fn hashing<'key>(
     request: &Request,
     secret: &'key [u8],

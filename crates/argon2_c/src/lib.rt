@@ -4,7 +4,7 @@
 //! - [`request`]: what a caller asks for, and the first reason to refuse it.
 //! - [`hash`], [`segments`]: the tag, by one call or by calls that threads share.
 //! - [`encode`], [`verify`]: texts, written and verified.
-//! - [`laws`]: what the calls answer by which a text is verified.
+//! - [`laws`]: what the calls that verify a text answer together.
 //! - [`phc`]: the calls of `argon2_phc.h`.
 #![tactic(auto)]
 

@@ -40,7 +40,7 @@ pub struct Request {
     pub has_free: bool,
 }
 
-/// The code of the first fault of a request for so many bytes, or 0.
+/// The code of the first fault of a request, by the lengths of its bytes, or 0.
 #[unsafe(no_mangle)]
 pub extern "C" fn argon2_c_refusal(
     request: &Request,
@@ -105,7 +105,7 @@ pub extern "C" fn argon2_c_refusal(
     }
 }
 
-/// The code by which `argon2_hash` refuses these lengths before all else, or 0.
+/// The code of `argon2_hash` that refuses these lengths before everything else, or 0.
 #[unsafe(no_mangle)]
 pub extern "C" fn argon2_c_length_refusal(output: usize, pwd: usize, salt: usize) -> i32
     ensures { result ≡ unwrap_or (first_of (length_faults output pwd salt)) OK }

@@ -121,7 +121,7 @@ pub extern "C" fn argon2_c_finish(request: &Request, last: &[Words], out: &mut [
     OK
 }
 
-// Whether an output, a password and a salt may have so many bytes.
+// Whether an output, a password and a salt may have these lengths.
 fn are_lengths(output: usize, pwd: usize, salt: usize) -> bool
     ensures { IsTrue result ↔ (4 ≤ output) × (output ≤ max_len) × (pwd ≤ max_len) × (8 ≤ salt)
         × (salt ≤ max_len) }

@@ -1,4 +1,4 @@
-//! What the text of a hash says, by which a password is verified.
+//! What the text of a hash says, which a password is verified by.
 
 ghost use Rattle.std.specs.Prelude.{◌≡◌, ◌≤◌, ◌+◌, ◌*◌, ℤ, None, Some, IfOk, length};
 ghost use Rattle.std.specs.Result.{result_err};
@@ -15,8 +15,8 @@ use argon2::{Algorithm, MAX_PWD_LEN};
 // The most bytes of a text; the reference library refuses a longer one.
 const MAX_TEXT_LEN: usize = 4294967295;
 
-/// Reads the text of a hash, by which a password of `pwd` bytes is to be verified, and returns 0. `lacks_pwd` is
-/// whether the password's pointer is null and its length is not 0.
+/// Reads the text of a hash, to verify a password of `pwd` bytes, and returns 0. `lacks_pwd` is whether the password's
+/// pointer is null and its length is not 0.
 ///
 /// Otherwise it returns the first of these: the code of the call's first fault; -32 if the text is not in the
 /// variant's grammar; the code of the first fault of the request that the text stands for.

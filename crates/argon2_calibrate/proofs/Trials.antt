@@ -6,7 +6,7 @@ use Rattle.argon2_calibrate.specs.Choice.{AreTrials, IsCandidate, IsGreatest, Is
 use Rattle.argon2_calibrate.specs.declared.choice.Choice.{Choice}
 use Rattle.argon2_calibrate.specs.declared.stopwatch.Times.{Times}
 
--- the search after so many trials
+-- the search after its first trials
 pub record IsTried (Takes : ℕ → ℕ → Option Times → Type 0) (target : ℕ) (first now : Choice)
     (most next count : ℕ) : Type 0 where
   pub costs : IsCandidate Takes target first now

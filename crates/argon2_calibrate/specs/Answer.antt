@@ -18,11 +18,11 @@ abbrev pub call_text : ℕ → ℕ → ℕ → List ℕ
 call_text m t p = codes "Params::new(" ++ (decimal m ++ (codes ", " ++ (decimal t ++ (codes ", " ++ (decimal p
     ++ (codes ", None)" ++ 10 ∷ []))))))
 
--- a number behind as many zeros as make it six digits
+-- a number after as many zeros as make it six digits
 abbrev pub six_places : ℕ → List ℕ
 six_places n = replicate (6 - length (decimal n)) 48 ++ decimal n
 
--- microseconds as seconds with six digits behind a point, a line
+-- microseconds as seconds with six digits after a point, a line
 abbrev pub time_text : ℕ → List ℕ
 time_text time = decimal (time / 1000000) ++ (codes "." ++ (six_places (time % 1000000)
     ++ (codes " seconds" ++ 10 ∷ [])))

@@ -50,7 +50,7 @@ pub struct Machine<'a, C: Clock + CpuClock> {
 }
 
 impl<'a, C: Clock + CpuClock> Machine<'a, C> {
-    /// The machine with this clock, which refuses more than so many blocks of memory.
+    /// The machine with this clock, which refuses more than `available` blocks of memory.
     pub fn new(alloc: Global, clock: &'a C, available: u32) -> Machine<'a, C> {
         Machine {
             alloc,
@@ -80,7 +80,7 @@ fn micros(time: Duration) -> u64 {
     u64::try_from(time.as_micros()).unwrap_or(u64::MAX)
 }
 
-// What is timed: Argon2id with so many lanes, blocks and passes.
+// What is timed: Argon2id with these lanes, blocks and passes.
 fn argon2id(lanes: u32, m_cost: u32, t_cost: u32) -> argon2::Result<Argon2<'static>>
     ensures { IsContextOf Argon2id V0x13 (cost_parameters m_cost t_cost lanes None) result }
 {

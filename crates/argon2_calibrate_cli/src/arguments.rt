@@ -51,7 +51,7 @@ Example: argon2-calibrate --lanes 4 0.5 1024
 The status is 0 if the costs are written, 2 if the arguments are wrong, and 3 if the clock, writing or a
 request for memory fails, which standard error says.";
 
-/// Reads the options, of which the last counts if one is given twice.
+/// Reads the options. If an option is given twice, the last one counts.
 ///
 /// # Errors
 /// The exit status, once a page is written or `errors` says why.

@@ -116,7 +116,7 @@ impl<'a> CommandLine<'a> {
         }
     }
 
-    // What the words give each argument.
+    // Reads the words, and collects the value of each argument.
     fn matches(&self, alloc: Global, words: &'a [String]) -> Result<Matches<'a>, Error> {
         let mut command = self.command(alloc)?;
         let found = command.try_get_matches_from_mut(words)?;

@@ -7,7 +7,7 @@ use std::alloc::{AllocError, Global};
 #[derive(Drop)]
 pub struct Matches<'a> {
     arguments: &'a [Argument<'a>],
-    // The values, each behind the name of its argument.
+    // The values, each after the name of its argument.
     values: Vec<(&'a str, &'a str)>,
 }
 

@@ -53,7 +53,7 @@ rounds_schedule ctx pass slice = record {
 
 -- ---- what they come to
 
--- the lanes from one on, and so many rounds more
+-- the lanes from `lane` on, and n rounds more
 unfoldable pub left : Context → ℕ → ℕ → List ℕ
 left ctx lane n = range_with_len lane (ctx.p_cost - lane) ++ lanes_by_round ctx.p_cost n
 
@@ -115,7 +115,7 @@ column_below slice s index few below =
     let slices : slice ≤ 3 = omega arith in
     omega (arith, mul-le-mul_right s slices)
 
--- a slice but the first begins behind columns 0 and 1
+-- a slice but the first begins after columns 0 and 1
 pub column_late : (slice s index first : ℕ) → 2 ≤ s → first ≤ index → (slice ≡ 0 → first ≡ 2) →
     2 ≤ slice * s + index
 column_late zero s index first two from late =

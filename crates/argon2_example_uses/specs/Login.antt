@@ -16,7 +16,7 @@ abbrev pub HasPasswordUnder : List ℕ → Login → List ℕ → List ℕ → T
 HasPasswordUnder secret login name password =
     IsSomeAnd (get (store_of login) name) (AcceptsBy secret password)
 
--- what a login answers and leaves, of which an unknown name and a wrong password are no errors here
+-- what a login answers and leaves. An unknown name and a wrong password are no errors here.
 abbrev pub FindsAndLeaves : Login → List ℕ → List ℕ → List ℕ → Result (Option Accepted) LoginError → Login → Type 0
 FindsAndLeaves old name password drawn (Ok (Some did)) new = Steps (logging_in name password drawn (Ok did)) old new
 FindsAndLeaves old name password drawn (Ok None) new =

@@ -11,7 +11,7 @@ use Rattle.argon2.specs.base_declared.error.password_hash.Error.TheVariants.{Pas
 abbrev pub default_target : TargetValue
 default_target = record { settings = argon2id_with default_parameters; secret = [] }
 
--- what verifying a text may answer, of which a wrong password is no error here
+-- what verifying a text may answer. A wrong password is no error here.
 abbrev pub IsAcceptedAnswer : List ℕ → List ℕ → Result Bool Error → Type 0
 IsAcceptedAnswer password text (Ok true) = IsVerifyTextAnswer [] password text (Ok tt)
 IsAcceptedAnswer password text (Ok false) = IsVerifyTextAnswer [] password text (Err PasswordInvalid)

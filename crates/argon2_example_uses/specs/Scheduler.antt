@@ -4,7 +4,7 @@ use Rattle.std.specs.List.{range_with_len}
 use Rattle.argon2.specs.Rfc9106.{Context}
 use Rattle.argon2.specs.Steps.{turn_count}
 
--- all lanes in order, in each of so many rounds
+-- all lanes in order, in each of n rounds
 unfoldable pub lanes_by_round : ℕ → ℕ → List ℕ
 lanes_by_round lanes zero = []
 lanes_by_round lanes (suc n) = range_with_len 0 lanes ++ lanes_by_round lanes n

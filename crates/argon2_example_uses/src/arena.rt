@@ -18,7 +18,7 @@ pub struct Input<'a> {
 }
 
 /// The tag of an input, made on the first blocks of an arena, which are then the tag's matrix,
-/// whatever they were; the blocks behind them stay.
+/// whatever they were; the blocks after them stay.
 ///
 /// # Errors
 /// Those of [`Argon2::hash_password_into_with_memory`]; the arena is then as before.

@@ -16,7 +16,7 @@ use argon2::laws::slice_interleaving;
 use argon2::{Argon2, Block, Result};
 
 /// Writes the tag of a password and a salt into `out`, by single steps on the first blocks of `memory`; the
-/// blocks behind them stay.
+/// blocks after them stay.
 ///
 /// # Errors
 /// Those of [`Argon2::hash_password_into_with_memory`]; output and memory are then as before.

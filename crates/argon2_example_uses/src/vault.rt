@@ -17,7 +17,7 @@ use std::alloc::Global;
 pub struct Header {
     /// The salt.
     pub salt: Salt,
-    /// The tag by which a passphrase is recognized.
+    /// The tag that a passphrase is recognized by.
     pub tag: Output,
 }
 

@@ -33,13 +33,13 @@ pub found_as : (input : Option (List ℕ)) {p q : List ℕ} → p ≡ q → IfSo
     → IfSome input (λ bytes. password_of bytes ≡ Some p)
 found_as input same found = subst (λ p. IfSome input (λ bytes. password_of bytes ≡ Some p)) (sym same) found
 
--- the password behind the first line, by its bytes
+-- the password after the first line, by its bytes
 pub behind_as : (input rest : Option (List ℕ)) {p q : List ℕ} → p ≡ q → DropsThrough input rest 10
     → IfSome rest (λ bytes. password_of bytes ≡ Some q) → IfSome (behind input) (λ bytes. password_of bytes ≡ Some p)
 behind_as None rest same drops found = tt
 behind_as (Some bytes) rest same drops found = found_as (Some (drop_through 10 bytes)) same (rw drops at found)
 
--- a fact of two passwords, the first lines, by which nothing is written
+-- a fact of the passwords on the first two lines, if nothing is written
 pub of_two : {P : List ℕ → List ℕ → Type 0} (output input rest : Option (List ℕ)) {first second p q : List ℕ} → first ≡ p
     → second ≡ q
     → DropsThrough input rest 10 → IfSome input (λ bytes. password_of bytes ≡ Some p)

@@ -32,8 +32,8 @@ module _ {S : Type 0} {g : Ghosts S} where
   abbrev pub Looks : Option FileError → AccountFile S g → AccountFile S g → Type 0
   Looks error before after = ((error ≡ None) × (after ≡ before)) ⊎ NamesStay error before after
 
-  -- Names were looked up, and entries of lines were to be added together, with this answer: those whose names neither the
-  -- file nor an earlier line has. The other lines have these flaws.
+  -- All names were looked up. The lines whose name neither the file nor an earlier line has were then to be added together, with
+  -- this answer. The other lines have these flaws.
   abbrev pub AddsEntries : Result (Unit {0}) FileError → List LineValue → List (ℕ × Flaw) → AccountFile S g → AccountFile S g
       → Type 0
   AddsEntries answer ls passed before after = (mid : AccountFile S g) × (new : List LineValue)
@@ -41,7 +41,7 @@ module _ {S : Type 0} {g : Ghosts S} where
       × ((names : Texts) → HasNames before names → IsHonest g (database_of after)
       → new ≡ new_lines (has_text names) ls)
 
-  -- the entries were added, and the failure has the numbers of the other lines, of which there are some
+  -- the entries were added, and the failure has the numbers of the other lines, at least one
   abbrev pub PassesOver : Failure → List LineValue → AccountFile S g → AccountFile S g → Type 0
   PassesOver (Passed passed) ls before after = (passed.items ≢ []) × AddsEntries (Ok tt) ls passed.items before after
   PassesOver _ ls before after = ⊥

@@ -38,18 +38,18 @@ pub use Rattle.argon2_passwd.specs.Texts.{Known, ReadsPassword, behind, IsNewTex
 pub use Rattle.argon2_passwd.specs.Additions.{ReadsLines, FailsToAdd, AddsLines, Looks, AddsEntries, PassesOver, FailsToLook, AddsOthers}
 pub use Rattle.argon2_passwd.specs.Files.{FileUse, IsOpened, IsOpenFor, OpensOnce, EditsOnce, ReadsText, FailsToRead, FailsOnName}
 
--- what an accepted login did whose fresh text is not written
+-- the answer of an accepted login if the fresh text could not be written
 abbrev pub answer_without_text : Accepted → Accepted
 answer_without_text Rehashed = Kept
 answer_without_text did = did
 
--- What an accepted login answers whose fresh text was to be written so. It is refused if the name was removed or locked
+-- The answer of an accepted login, given the result of writing its fresh text. It is refused if the name was removed or locked
 -- meanwhile.
 abbrev pub login_by : Accepted → Outcome → Result Accepted Failure
 login_by did (Ok _) = Ok did
 login_by did (Err failure) = if is_denial failure then Err failure else Ok (answer_without_text did)
 
--- a line was written, or a front of it if a write fails
+-- a line was written, or a prefix of it if a write fails
 abbrev pub WritesLine : List ℕ → Outcome → Known → Known → Type 0
 WritesLine line (Ok _) old new = Appends old new line
 WritesLine line (Err failure) old new = IsOfWrite failure × AppendsPrefix old new line
@@ -59,7 +59,7 @@ abbrev pub WritesLogin : Result Accepted Failure → Outcome → Known → Known
 WritesLogin (Ok did) result old new = WritesLine (accepted_text did ++ 10 ∷ []) result old new
 WritesLogin (Err why) result old new = (result ≡ Err why) × Keeps old new
 
--- a call of which its result tells, or a file that was not opened, which is no refusal
+-- either the call was made, and its result satisfies `Made`, or the file was not opened, which is a failure and no refusal
 abbrev pub EndsOrFailsToOpen : {X : Type 0} → (Result X Failure → Type 0) → Type 0 → Result X Failure → Type 0
 EndsOrFailsToOpen Made untouched result = Made result ⊎ (untouched × IsErrAnd result (λ failure. status_of failure ≡ 3))
 
@@ -86,13 +86,13 @@ HasReply Gives policy (Check text) input P = ReadsPassword (λ password.
     × LogsIn policy password drawn v did w × P (login_text did w ++ 10 ∷ [])) input
 HasReply Gives policy _ input P = ⊥
 
--- How a command ended that opened no file: its answer was said, or nothing, since it is refused before or fails.
+-- A command that opens no file either prints its answer, or is refused or fails and prints nothing.
 abbrev pub UsesNoFile : (List ℕ → Type 0) → PolicyValue → Action → Outcome → Known → Known → Known → Type 0
 UsesNoFile Gives policy what result input old new = HasReply Gives policy what input (λ line. WritesLine line result old new)
     ⊎ (Keeps old new × IsErrAnd result (λ failure. (status_of failure ≡ 3) ⊎ IsUnfit policy what input failure))
 
 module _ {S : Type 0} (g : Ghosts S) (Gives : List ℕ → Type 0) where
-  -- A login with the password was all that was done with the file at a path, with this result. If the text accepts the
+  -- The only thing done with the file at a path was one login with the password, which gave `result`. If the text accepts the
   -- password, none is replaced, or a call to replace it ended so.
   abbrev pub IsLogin : PolicyValue → List ℕ → List ℕ → List ℕ → Result Accepted Failure → (List (FileUse S) → Type 0) → Type 0
   IsLogin policy path name password result Closed =
@@ -159,8 +159,8 @@ module _ {S : Type 0} (g : Ghosts S) (Gives : List ℕ → Type 0) where
       × Keeps old new)
       ⊎ EndsAction (policy_by options secret prior) what result input old new Closed))
 
--- What standard error gets: a front of the news of the file. A refusal that does not tell whether the name is there adds a
--- front of one line, the same for each of them.
+-- What standard error gets: a prefix of the news of the file. A refusal that does not tell whether the name is there adds a
+-- prefix of one line, the same line for each such refusal.
 abbrev pub WritesErrors : Options → Action → News → Outcome → Known → Known → Type 0
 WritesErrors options what news (Ok _) old new = (n : ℕ) × Appends old new (take n (news_of what news))
 WritesErrors options what news (Err failure) old new = options.explain ≡ false → IsDenialOf what failure

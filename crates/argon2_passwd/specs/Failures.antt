@@ -42,7 +42,7 @@ status_of _ = 3
 abbrev pub Outcome : Type 0
 Outcome = Result (Unit {0}) Failure
 
--- the outcome of a call with this answer, of which each error becomes a failure
+-- the outcome of a call with this answer: each error becomes a failure
 abbrev pub outcome_by : {E : Type 0} → (E → Failure) → Result (Unit {0}) E → Outcome
 outcome_by failure done = result_map_both (λ x. x) failure done
 

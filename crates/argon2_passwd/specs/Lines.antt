@@ -36,7 +36,7 @@ parts_of line = if is_utf8 line then (before_first (λ b. b == 58) line, after_f
 abbrev pub IsArgon2 : List ℕ → Type 0
 IsArgon2 text = (v : Phc) × IsPhcText text v × IsOk (shown_settings v)
 
--- The text has a colon, as only those of Werkzeug do. Behind any other text comes the next field of a line of another program.
+-- The text has a colon, as only those of Werkzeug do. After any other text comes the next field of a line of another program.
 abbrev pub has_field : List ℕ → Bool
 has_field text = list_any (λ b. b == 58) text && not (begins_any (codes "scrypt:" ∷ codes "pbkdf2:" ∷ []) text)
 
@@ -78,7 +78,7 @@ abbrev pub MayNotBeAdded : Bool → List ℕ → Type 0
 MayNotBeAdded false text = ¬ (IsStored text) ⊎ ((v : Phc) × IsPhcText (without_lock text) v × ¬ (IsOk (shown_settings v)))
 MayNotBeAdded true text = ¬ (IsStored text) × ¬ (IsForeign text)
 
--- what lines say behind a byte order mark
+-- what lines say after a byte order mark
 abbrev pub unmarked : List ℕ → List ℕ
 unmarked input = after_any (mark ∷ []) input
 

@@ -22,7 +22,7 @@ abbrev pub ReadsPassword : (List ℕ → Type 0) → Known → Type 0
 ReadsPassword P input =
     (password : List ℕ) × IfSome input (λ bytes. password_of bytes ≡ Some password) × P password
 
--- what an input has behind its first line
+-- what an input has after its first line
 abbrev pub behind : Known → Known
 behind input = option_map (drop_through 10) input
 

@@ -77,7 +77,7 @@ pub enum EditTask {
     Set,
     /// The name and its text are removed.
     Remove,
-    /// The text is kept behind `!`, and accepts no password.
+    /// The text is kept after `!`, and accepts no password.
     Lock,
     /// The text is as it was before it was locked.
     Unlock,

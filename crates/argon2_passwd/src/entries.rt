@@ -51,7 +51,7 @@ fn has_scheme(text: &str) -> bool
     scheme_of(text).is_some() && !has_field(text)
 }
 
-// Whether a text has a colon, as only those of Werkzeug do. Behind any other text comes the next field of a line of another
+// Whether a text has a colon, as only those of Werkzeug do. After any other text comes the next field of a line of another
 // program.
 fn has_field(text: &[u8]) -> bool
     ensures { result ≡ has_field text.now }

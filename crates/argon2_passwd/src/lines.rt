@@ -14,7 +14,7 @@ use std::alloc::{AllocError, Global};
 /// What a line says: a name and a text that may be added, or why it has none.
 pub type Line<'a> = Result<(&'a str, StoredText<'a>), Flaw>;
 
-/// What each line says behind a byte order mark.
+/// What each line says after a byte order mark.
 ///
 /// # Errors
 /// Memory may be refused.

@@ -32,7 +32,7 @@ pub const PROGRAM: &str = "argon2-passwd";
 /// random bytes or a request for memory failed. Status 4: the text that was to accept the password is outside the
 /// grammar, has no valid parameters, is above the bound or of another scheme; or an import has passed over lines.
 /// Unless it is 0, the failure's text is written to `errors`, and nothing to `output`; only a write of it that fails may
-/// leave a front of the answer, and a list what could be read. If `errors` can't be written, the status stays. Unless
+/// leave a prefix of the answer, and a list what could be read. If `errors` can't be written, the status stays. Unless
 /// `explain` is set, a login that is refused has the same text for an unknown name, a locked one and a wrong password.
 /// Whatever the status, the command is all that was done with a file.
 pub fn run<P: Outside, R: BufRead, W: Write, E: Write>(

@@ -101,7 +101,7 @@ line is refused; 2 if the arguments are wrong or the parameters are above the bo
 random bytes or a request for memory fails; and 4 if no password opens a text, since it is outside the grammar,
 of another scheme or above the bound, or if --skip passed over a line. If it is not 0, standard error says why.";
 
-/// Reads the command with its options, of which the last counts if one is given twice.
+/// Reads the command with its options. If an option is given twice, the last one counts.
 ///
 /// # Errors
 /// The exit status, once a page is written or `errors` says why.

@@ -60,7 +60,7 @@ pub is_fresh : (target : TargetValue) (password drawn : List ℕ) (h : PasswordH
 is_fresh target password drawn h answer =
     let same = hash_made target password drawn h answer in ((rw same at h.grammatical).salt, grind (arith, nat_tests), same)
 
--- the fields behind the name
+-- the fields after the name
 abbrev behind_name : Phc → List (List ℕ)
 behind_name v =
     field version_text v.version ++ (list_field v.params ++ (field strict_base64 v.salt ++ field strict_base64 v.hash))

@@ -14,7 +14,7 @@ use Rattle.sqlite_trees.proofs.Doubt.{never_clean, no_doubt}
 use Rattle.sqlite_trees.proofs.TreeLemmas.{prefix_cmp-one}
 use Rattle.std.specs.Float.Ieee
 
--- names of which one is changed: it has what it was given, and the others keep what they have
+-- after a change of one name, it has the text that it was given, and the other names keep their texts
 pub get-at : (m : Texts) (n q : List ℕ) (o : Option (List ℕ)) → get (changed m n o) q ≡ cond (bytes_eq q n) o (get m q)
 get-at m n q None = search (arith, get-remove nat_list_cmp_total m n q, is_eq-slice_cmp q n)
 get-at m n q (Some text) = search (arith, get-insert nat_list_cmp_total m n text q, is_eq-slice_cmp q n)
@@ -130,7 +130,7 @@ met_at k (e ∷ es) met left sorted at =
     let tied = tied_itself nat_list_cmp_total k in
     grind (arith, row_by_name e k, nat_list_cmp_total.antisymm k e.0, none_below k e.0 es, met_at k es met left)
 
--- if a seek by a name stands behind all rows, they are of no such name, and of none after it
+-- if a seek by a name stands after all rows, they are of no such name, and of none after it
 none_past : (k n : List ℕ) (es : List (List ℕ × List ℕ)) → is_gt (order k n) ≡ false
     → from_key plain (Text k ∷ []) (map row_of es) ≡ [] → find order n es ≡ None
 none_past k n [] upto past = refl

@@ -82,7 +82,7 @@ breaks_line Export name = list_any (λ b. b == 10) name || list_any (λ b. b == 
 abbrev pub AreFitLines : View → List (List ℕ × List ℕ) → Type 0
 AreFitLines view es = All (λ e. breaks_line view e.0 ≡ false) es
 
--- what writing the line of a name did: a name that breaks it has written nothing, and a failure a front of the line
+-- what writing the line of a name did: a name that breaks it has written nothing, and a failure a prefix of the line
 abbrev pub IsLineOf : View → List ℕ × List ℕ → Option (List ℕ) → Option (List ℕ) → Written → Type 0
 IsLineOf view e old new written.All = Appends old new (line view e) × (breaks_line view e.0 ≡ false)
 IsLineOf view e old new Breaks = Keeps old new × (breaks_line view e.0 ≡ true)

@@ -4,7 +4,7 @@ use Rattle.std.specs.List.{list_any}
 use Rattle.argon2_base.specs.PhcText.{Phc, IsPhcText}
 use Rattle.argon2_schemes.specs.Locks.{without_lock}
 
--- the text is in the grammar of PHC texts, or is one behind `!`
+-- the text is in the grammar of PHC texts, or is one after `!`
 abbrev pub IsStored : List ℕ → Type 0
 IsStored text = (v : Phc) × IsPhcText (without_lock text) v
 

@@ -47,7 +47,7 @@ fn texts_in(row: &Row) -> Option<(&[u8], &[u8])>
     }
 }
 
-// Whether a row is that of a name with a text of one line: behind a line break, it would read as a line of another name.
+// Whether a row is that of a name with a text of one line: after a line break, it would read as a line of another name.
 fn is_account(row: &Row) -> bool
     ensures { IsTrue result ↔ IsAccount row.now }
 {
@@ -182,11 +182,11 @@ pub fn are_rows_sound<S: Store>(
         }
         mem::swap(row, last);
     }
-    // No file has so many rows.
+    // No file has that many rows.
     Err(StoreError::OutOfMemory)
 }
 
-// What became of lines whose writing ended so.
+// Turns the result of the last write into the outcome of the lines.
 fn outcome(done: io::Result<()>) -> Written
     ensures { MatchResult done (λ _. result ≡ All) (λ why. result ≡ Failed why) }
 {
@@ -291,6 +291,6 @@ pub fn write_rows<S: Store, W: Write>(
             None => return Err(StoreError::Corrupt),
         }
     }
-    // No file has so many rows.
+    // No file has that many rows.
     Err(StoreError::OutOfMemory)
 }

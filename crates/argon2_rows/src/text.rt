@@ -11,7 +11,7 @@ use argon2_base::error::password_hash::Result;
 use argon2_base::phc::PasswordHash;
 use argon2_schemes::after_lock;
 
-/// A text as it is stored: a PHC text, or one line of another scheme. Behind `!` it is locked, and accepts no password.
+/// A text as it is stored: a PHC text, or one line of another scheme. After `!` it is locked, and accepts no password.
 #[derive(Clone, Copy, Debug, PartialEq, Eq, PartialOrd, Ord)]
 pub struct StoredText<'a> {
     text: &'a str,
@@ -24,7 +24,7 @@ impl<'a> StoredText<'a> {
     /// A text with what it says, without a `!` before it.
     ///
     /// # Errors
-    /// `EncodingInvalid`: it is outside the grammar of PHC texts, also behind `!`.
+    /// `EncodingInvalid`: it is outside the grammar of PHC texts, also after `!`.
     pub fn new(text: &'a str) -> Result<(StoredText<'a>, PasswordHash)>
         ensures found { IfOk result (λ it. (text_in it.0 ≡ text.now)
             × IsPhcText (without_lock text.now) (phc_of it.1)) }

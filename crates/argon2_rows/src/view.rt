@@ -22,7 +22,7 @@ pub enum Written {
     All,
     /// Those before the first whose name [breaks it](View::breaks_line).
     Breaks,
-    /// A front of those before that name, perhaps not to the end of a line: then writing failed.
+    /// A prefix of those before that name, perhaps not to the end of a line: then writing failed.
     Failed(io::Error),
 }
 

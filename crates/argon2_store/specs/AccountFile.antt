@@ -75,7 +75,7 @@ module _ {S : Type 0} {g : Ghosts S} where
     pub left : IsHonest g (database_of file) → CrashLeaves g (database_of file) (λ left. left ≡ names)
 
   -- a file that was opened, with the names that the two files held, each with a text of one line, in the format that this release
-  -- knows, and not behind a damaged log
+  -- knows, and not after a damaged log
   abbrev pub IsFileFrom : Image → AccountFile S g → Type 0
   IsFileFrom image file =
       (names : Texts) × IsReady names file × AreLines names

@@ -38,7 +38,7 @@ name_of (removing name) = name
 name_of (locking name) = name
 name_of (unlocking name) = name
 
--- the text behind `!`, where it stays if it is there already
+-- the text after `!`, where it stays if it is there already
 abbrev pub with_lock : List ℕ → List ℕ
 with_lock text = if is_locked text then text else 33 ∷ text
 
@@ -65,7 +65,7 @@ abbrev pub AddsShortName : NamedEdit → Type 0
 AddsShortName (adding name text) = length name ≤ 4096
 AddsShortName _ = ⊤
 
--- what is done to the row of a name leaves it this text, or none, in the place of what it has
+-- the row edit turns the text `before` into the text `after`, where None is no row
 abbrev pub MakesRow : Option (List ℕ) → Option (List ℕ) → RowEdit → Type 0
 MakesRow before after row.Keep = after ≡ before
 MakesRow before after (row.Insert new) = (before ≡ None) × (after ≡ Some (text_of new.now))

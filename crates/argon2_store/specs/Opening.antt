@@ -80,7 +80,7 @@ HasOtherFormat image n = (n ≢ 0) × ((pages : PageMap) × Recovers 4096 image 
 
 -- ---- an open that fails
 
--- The log has room for a frame, and its header fails its test behind the right first byte. That byte is taken away before the
+-- The log has room for a frame, and its header fails its test after the right first byte. That byte is taken away before the
 -- others are written and comes back last, so by the kit's code no crash leaves this.
 abbrev pub IsDamaged : List ℕ → Type 0
 IsDamaged log = (56 ≤ length log) × (slice_index log 0 ≡ 0x37) × (¬ IsSigned (header log))

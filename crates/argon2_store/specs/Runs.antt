@@ -1,4 +1,4 @@
--- Runs on an account file, each of which opens what the last one left.
+-- Runs on an account file. Each run opens what the run before it left.
 use Rattle.std.specs.Prelude.{◌≡◌, ◌⊎◌, ℕ, List, [], ◌∷◌, ◌++◌, false, if◌then◌else◌, Option, Some, None, Result, Ok, Err}
 use Rattle.std.specs.FinMap.{empty, get}
 use Rattle.sqlite_disk.specs.declared.Disk as disk

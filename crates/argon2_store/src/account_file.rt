@@ -26,7 +26,7 @@ use std::io::Write;
 /// Names with PHC texts in a file. Once a call that changes a text returns `Ok`, the file holds the change, past any
 /// crash. No name is kept in memory: each call looks its name up in the file.
 ///
-/// A name is any text. A text may be locked: it then stands behind `!`, and accepts no password.
+/// A name is any text. A text may be locked: it then stands after `!`, and accepts no password.
 ///
 /// If a call returns an error, the names are as before it. One exception: if the disk fails, the file may have to be
 /// opened again. Then [`FileError::Closed`] refuses every later call, and after a failed commit the file may hold the
@@ -126,7 +126,7 @@ impl<S: Store> AccountFile<S> {
         self.edit(name, &Edit::Remove)
     }
 
-    /// Locks a name: its text is kept behind `!`, and accepts no password until [`unlock`](AccountFile::unlock) or
+    /// Locks a name: its text is kept after `!`, and accepts no password until [`unlock`](AccountFile::unlock) or
     /// [`set`](AccountFile::set). A text that is locked stays as it is.
     ///
     /// # Errors
@@ -429,7 +429,7 @@ impl<D: Disk> AccountFile<FileStore<D>> {
     }
 }
 
-// A text behind `!`.
+// A text after `!`.
 fn add_lock(alloc: Global, text: &str) -> Result<String, AllocError>
     ensures { IfOk result (λ locked. string_bytes locked ≡ 33 ∷ text.now) }
 {

@@ -20,7 +20,7 @@ pub enum Edit<'a> {
     Replace(&'a str, &'a PasswordHash),
     /// A name and its text are removed: [`remove`](crate::AccountFile::remove).
     Remove,
-    /// The text of a name is put behind `!`: [`lock`](crate::AccountFile::lock).
+    /// The text of a name is put after `!`: [`lock`](crate::AccountFile::lock).
     Lock,
     /// The `!` before the text of a name is removed: [`unlock`](crate::AccountFile::unlock).
     Unlock,
@@ -33,9 +33,9 @@ pub(crate) enum RowEdit<'old, 'new> {
     Insert(&'new PasswordHash),
     Replace(&'old str, &'new PasswordHash),
     Remove(&'old str),
-    // The text is put behind `!`.
+    // The text is put after `!`.
     Lock(&'old str),
-    // The second text is what stands behind `!` in the first.
+    // The second text is what stands after `!` in the first.
     Unlock(&'old str, &'old str),
 }
 

@@ -392,7 +392,7 @@ fn check_begun(rt: &HostRuntime, file: &File, path: &str) -> Result<(), OpenErro
 }
 
 // Makes what the kit's open left of a file that was removed meanwhile its owner's alone, and removes the empty log. The kit still
-// locks the file, behind which a log is opened, so no other process has this one.
+// locks the file, after which a log is opened, so no other process has this one.
 fn narrow(rt: &HostRuntime, path: &str) -> Result<(), OpenError> {
     let file = open_regular(rt, path)?;
     let log = format!(in rt.alloc(); "{path}-wal")?;

@@ -7,7 +7,7 @@ use std::cell::Cell;
 use std::fmt::{Debug, Display};
 use std::io::{self, Write};
 
-/// What is answered. It can be added to behind a shared reference, so that a call of it is cheap to prove.
+/// What is answered. Calls add to it through a shared reference, so that a call of it is cheap to prove.
 #[derive(Drop)]
 pub struct Answer {
     /// What the calls allocate by.

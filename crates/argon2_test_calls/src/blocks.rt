@@ -48,7 +48,7 @@ pub(crate) fn make(call: &Call<'_, '_>, answer: &Answer) -> bool {
     true
 }
 
-// `LENGTH MESSAGE CUT`: the hash of a message in three pieces: so many bytes, none, and the others.
+// `LENGTH MESSAGE CUT`: the hash of a message in three pieces: the first CUT bytes, none, and the other bytes.
 fn long_digest(call: &Call<'_, '_>, answer: &Answer) {
     let (message, cut) = (call.bytes(2), call.count(3) as usize);
     let mut out = answer.ones(call.count(1));
@@ -57,7 +57,7 @@ fn long_digest(call: &Call<'_, '_>, answer: &Answer) {
     answer.display_output(done, &out);
 }
 
-// `LENGTH MESSAGE PIECE`: the digest of a message whose pieces have so many bytes, but for the last.
+// `LENGTH MESSAGE PIECE`: the digest of a message in pieces of PIECE bytes, except for the last piece.
 fn digest(call: &Call<'_, '_>, answer: &Answer) {
     let (mut buffer, len) = ([0; 64], call.count(1) as usize);
     if len == 0 || len > 64 {

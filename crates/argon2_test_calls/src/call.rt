@@ -1,4 +1,4 @@
-//! The values of a call, by their places behind its name, which has place 0.
+//! The values of a call, by their places after its name, which has place 0.
 //!
 //! - A number is a decimal.
 //! - Bytes are written as in a [`Line`]. A text is what its bytes spell.

@@ -105,7 +105,7 @@ pub fn builder(call: &Call<'_, '_>, place: usize) -> Result<ParamsBuilder> {
     Ok(builder)
 }
 
-// The bytes of the option of this name, behind four values from a place on.
+// The bytes of the option of this name, after four values from a place on.
 fn option<'a>(call: &Call<'_, 'a>, name: &str, place: usize) -> Option<&'a [u8]> {
     for place in place.saturating_add(4)..call.len() {
         let (other, bytes) = call.option(place);

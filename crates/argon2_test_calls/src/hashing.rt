@@ -52,7 +52,7 @@ pub(crate) fn make(call: &Call<'_, '_>, answer: &Answer, memory: &mut Vec<Block>
     true
 }
 
-// `.. DATA`: under other associated data; `.. DATA COUNT`: the same on so many blocks of ones, as their words.
+// `.. DATA`: under other associated data. `.. DATA COUNT`: the same on COUNT blocks of ones, as their words.
 fn hash(call: &Call<'_, '_>, answer: &Answer) {
     let (argon2, password, salt) = inputs(call);
     let (alloc, mut out) = (answer.alloc, answer.ones(call.count(4)));
@@ -84,7 +84,7 @@ fn hash_on_words(call: &Call<'_, '_>, answer: &Answer, tag: &mut [u8]) -> Result
 // ---- lent memory
 
 // `memory COUNT CONTENT`: the memory that the next calls get, of zeros, of ones, or of blocks with a bit set: each has its next
-// place, and those behind have none.
+// place, and those after have none.
 fn lend(call: &Call<'_, '_>, answer: &Answer) -> Vec<Block> {
     let (count, content) = (call.count(1) as usize, call.word(2));
     let mut memory = answer.list_or_empty(Vec::from_elem(answer.alloc, Block::new(), count));
@@ -106,7 +106,7 @@ fn lend(call: &Call<'_, '_>, answer: &Answer) -> Vec<Block> {
     memory
 }
 
-// The digests of the blocks that a context fills, and of those behind.
+// The digests of the blocks that a context fills, and of those after.
 fn digests(argon2: &Argon2<'_>, memory: &[Block]) -> ([u8; 8], [u8; 8]) {
     let (filled, rest) = memory.split_at(argon2.params().block_count().min(memory.len()));
     (digest_of(filled), digest_of(rest))
@@ -345,7 +345,7 @@ fn fill(argon2: &Argon2<'_>, memory: &mut [Words], at: Segment) -> bool {
     fits
 }
 
-// The blocks before a place, so many behind it, and the others, as far as there are so many.
+// The blocks before `place`, the next `count` blocks, and the other blocks. The parts are shorter if the memory ends.
 fn split_apart(
     memory: &mut [Words],
     place: usize,

@@ -1,6 +1,6 @@
 //! A call as a line writes it: its words, the bytes that they say, and the answer that it must have.
 //!
-//! `COUNT*HEX` are bytes in hex so many times, and several of these, joined by `+`, are those one after another. Any other word
+//! `COUNT*HEX` are bytes in hex, COUNT times. Several of these, joined by `+`, are their bytes one after another. Any other word
 //! says the bytes of its text.
 
 use argon2::phc::read_decimal;
@@ -29,7 +29,7 @@ impl<'a> Line<'a> {
         self.call.split(' ').nth(place)
     }
 
-    /// The bytes of the word at a place, if it is in hex. That may stand behind a name, as in `NAME=COUNT*HEX`.
+    /// The bytes of the word at a place, if it is in hex. That may stand after a name, as in `NAME=COUNT*HEX`.
     pub fn hex(&self, place: usize) -> Option<&[u8]> {
         match self.bytes.get(place) {
             Some(Some(bytes)) => Some(bytes),
@@ -73,7 +73,7 @@ fn bytes_of(alloc: Global, call: &str) -> Result<Vec<Option<Vec<u8>>>, AllocErro
     Ok(all)
 }
 
-// What stands before and behind the first `=`.
+// What stands before and after the first `=`.
 pub(crate) fn split_word(word: &str) -> (&str, &str) {
     match word.split_once('=') {
         Some((name, value)) => (name, value),
@@ -90,7 +90,7 @@ fn decode(alloc: Global, word: &str) -> Result<Option<Vec<u8>>, AllocError> {
     Ok(if is_hex { Some(bytes) } else { None })
 }
 
-// Puts the bytes of a piece behind others. Returns whether it is such a piece.
+// Puts the bytes of a piece after others. Returns whether it is such a piece.
 fn read_piece(piece: &str, bytes: &mut Vec<u8>) -> Result<bool, AllocError> {
     let Some((count, digits)) = piece.split_once('*') else {
         return Ok(false);

@@ -185,7 +185,7 @@ fn make_on_value(call: &Call<'_, '_>, answer: &Answer, value: &PasswordHash) {
                 show_list(answer, &params);
             }
         }
-        // The same behind the algorithm and the version.
+        // The same after the algorithm and the version.
         "Settings::try_from" => {
             if let Some(it) = answer.ok(Settings::try_from(value)) {
                 show_settings(answer, &it);

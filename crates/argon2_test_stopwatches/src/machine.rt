@@ -13,7 +13,7 @@ pub enum Machine {
     /// A hash takes 10 ms for each pass. But a hash with two passes takes `two` microseconds, and the second of three such hashes
     /// takes twice as long.
     Uneven { two: u32 },
-    /// Each hash takes a millisecond. The machine has `blocks` of memory, and no memory after so many `measurements`.
+    /// Each hash takes a millisecond. The machine has `blocks` blocks of memory, and no memory after `measurements` measurements.
     Full { blocks: u32, measurements: u32 },
     /// Each hash takes a second, and the processor works for `worked` microseconds of it.
     Shared { worked: u32 },

@@ -12,7 +12,7 @@ pub struct Stream {
 }
 
 impl Stream {
-    /// An empty stream that fails after so many calls.
+    /// An empty stream that fails after this number of calls.
     pub fn new(alloc: Global, calls: u32) -> Stream {
         Stream {
             bytes: Vec::new(alloc),

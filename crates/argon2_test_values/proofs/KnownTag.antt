@@ -10,7 +10,7 @@ use Rattle.argon2_base.specs.LongHash.{chain, half, half_count, long_hash}
 use Rattle.argon2.specs.Rfc9106.{Context, block_after, first_block, initial_hash, last_block, number, tag_of}
 use Rattle.argon2_test_values.proofs.Computing.{digests, last_blocks}
 
--- the first halves of so many digests, each of the one before
+-- the first halves of a chain of digests, each the digest of the one before
 halves : ℕ → List ℕ → List ℕ
 halves zero v = []
 halves (suc r) v = let next = blake2b 64 v in take 32 next ++ halves r next

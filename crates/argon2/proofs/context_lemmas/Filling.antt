@@ -14,7 +14,7 @@ pub HasBlocksUpTo-like : (ctx : Context) (first : FirstColumns) (pass : ℕ) (do
     → HasBlocksUpTo ctx first pass done memory → HasBlocksUpTo ctx first pass done' memory
 HasBlocksUpTo-like ctx first pass done done' memory same h = grind arith
 
--- ---- a step of a slice, in which each lane has so many columns
+-- ---- a step of a slice, in which lane i has `done i` columns
 
 module _ (ctx : Context) (sizes : HasSizes ctx) (first : FirstColumns)
     (pass lane column slice : ℕ) (done : ℕ → ℕ) (memory : Memory)

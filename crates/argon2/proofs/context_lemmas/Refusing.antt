@@ -12,7 +12,7 @@ pub answered : {A B : Type 0} (refusal : Option Error) (x y : A) (v : B) → Ok 
     ≡ answer_unless refusal v
 answered refusal x y v is = rw (unrefused refusal x y is) refl
 
--- nor is there one in a front of the table
+-- nor is there a fault in a prefix of the table
 front_of : (xs ys : List (Bool × Error)) → first_of (xs ++ ys) ≡ None → first_of xs ≡ None
 front_of [] ys none = refl
 front_of ((false, fault) ∷ xs) ys none = front_of xs ys none

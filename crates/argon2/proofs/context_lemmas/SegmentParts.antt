@@ -50,7 +50,7 @@ pub ruleset readable = (Reads-place, reference_reads)
 
 -- ---- a lane that goes ahead of the others in its slice
 
--- how many columns of each lane are made when one has so many and the others have not begun the slice
+-- how many columns of lane `other` are made when `lane` has `column` columns, and the other lanes have not begun the slice
 abbrev pub ahead : Context → ℕ → ℕ → ℕ → ℕ → ℕ → ℕ
 ahead ctx pass slice lane column other = if other == lane then column else columns_before ctx pass slice
 

@@ -8,7 +8,7 @@ use Rattle.argon2_base.proofs.phc_lemmas.ValueCharacters.{decimal_chars, base64_
 abbrev pub cost_item : List ℕ → ℕ → Pair
 cost_item name n = (name, decimal n)
 
--- so many characters of values are a value
+-- 1 to 64 characters of values are a value
 value_from : (s : List ℕ) → 1 ≤ length s → length s ≤ 64 → list_all is_value_char s ≡ true → is_value s ≡ true
 value_from s low high chars = rw (le-leb 1 (length s) low, le-leb (length s) 64 high, chars) refl
 

@@ -12,7 +12,7 @@ use argon2_base::phc::PasswordHash;
 use std::alloc::Global;
 
 impl Argon2<'_> {
-    /// Ok if a password is accepted by what a text is verified by, under this context's secret. The memory of
+    /// Verifies a password by a stored text that was read, under the secret of this `Argon2`. The memory of
     /// the hash is requested from `alloc` in one request, and freed before the call returns.
     ///
     /// # Errors

@@ -38,7 +38,7 @@ pub group_permuted : (lane : ℕ → ℕ) (x : List (List ℕ)) (a b c d : List 
 unfolding perm mix_columns mix_diagonals
 group_permuted lane x a b c d at ct dt e f g h ea gc hd first to_a to_c to_d second from_a from_c from_d = grind arith
 
--- four vectors of which groups of four lanes, and then halves, changed places
+-- four vectors, after groups of four lanes and then halves have changed places
 abbrev pub transposed : List (List ℕ) → List (List ℕ)
 transposed x =
     let a0 = exchanged_left 16 4 (row_at x 0) (row_at x 1) in

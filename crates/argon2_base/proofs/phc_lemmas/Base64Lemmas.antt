@@ -24,7 +24,7 @@ pub decode_of-strict_base64 : (b : List ℕ) → IsBytes b → decode_of standar
 decode_of-strict_base64 b bytes = ap (decode_of standard_no_pad) (sym (encode_of-strict b))
     ∙ decode_of-encode_of standard_no_pad b refl bytes
 
--- how long the text of so many bytes is
+-- the length of the text of some bytes
 pub length-strict_base64 : (b : List ℕ) → length (strict_base64 b) ≡ (4 * length b + 2) / 3
 unfolding strict_base64
 length-strict_base64 b = length-encode_symbols alphabet b
@@ -51,7 +51,7 @@ short_by : (most : ℕ) (s b : List ℕ) (r : Result (List ℕ) DecodeError) →
 unfolding decoded_of
 short_by most s b r is h = let found = rw is at h in grind arith
 
--- `short_bytes` finds the bytes, at most so many, whose strict Base64 a text is
+-- `short_bytes` finds the bytes whose strict Base64 a text is, if they are at most `most`
 pub short_bytes_found : (most : ℕ) (s b : List ℕ) → IsBytes s → short_bytes most s ≡ Some b
     → IsBytes b × (length b ≤ most) × (s ≡ strict_base64 b)
 short_bytes_found most s b bytes h =

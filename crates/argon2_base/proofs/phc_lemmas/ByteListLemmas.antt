@@ -1,4 +1,4 @@
--- Byte lists with zeros behind their bytes: what copying and decoding into zeros leaves.
+-- Byte lists with zeros after their bytes: what copying and decoding into zeros leaves.
 use Rattle.argon2_base.proofs.Imports.{common_steps, ◌≡◌, ℕ, ◌-◌, ◌≤◌, Bool, false, List, ◌++◌, length, take, drop, replicate, if◌then◌else◌, Option, Result, Ok, Err, sym, ◌∙◌, arith}
 use Rattle.argon2_base.proofs.Imports.{nat_tests, le-ltb, drop-replicate, take_at, drop-append-drop, standard_no_pad, decode_slice_of, decoded_bytes_of, DecodeError, IsBytes, strict_base64}
 use Rattle.argon2_base.proofs.Imports.{base64_length}
@@ -7,7 +7,7 @@ use Rattle.base64.specs.declared.decode.DecodeSliceError.{DecodeSliceError}
 use Rattle.base64.specs.declared.decode.DecodeSliceError.TheVariants.{OutputSliceTooSmall}
 use Rattle.argon2_base.proofs.phc_lemmas.Base64Lemmas.{decode_of-strict_base64, length-strict_base64, strict_base64_decoded}
 
--- behind the k bytes ys that were copied, the rest of n zeros is left
+-- after the k bytes ys that were copied, the rest of n zeros is left
 pub drop-filled : (n k : ℕ) (ys : List ℕ) → length ys ≡ k → drop k (ys ++ drop k (replicate n 0)) ≡ replicate (n - k) 0
 drop-filled n k ys e = drop-append-drop k (replicate n 0) ys k (omega arith) e ∙ drop-replicate k n 0
 

@@ -12,14 +12,14 @@ read_again text ps h = ap pairs_of h.1 ∙ pairs_again ps (all_params ps h.0)
 pub one_list : (text : List ℕ) (ps qs : List Pair) → IsParamsText text ps → IsParamsText text qs → ps ≡ qs
 one_list text ps qs h k = sym (read_again text ps h) ∙ read_again text qs k
 
--- ---- the front of a list
+-- ---- a prefix of a list
 
 -- a name that a list lacks, its front lacks
 absent_front : (n : List ℕ) (a b : List Pair) → is_none (value_of n (a ++ b)) ≡ true → is_none (value_of n a) ≡ true
 absent_front n [] b h = refl
 absent_front n (p ∷ a) b h = let front = absent_front n a b in grind arith
 
--- the names of a front are distinct
+-- the names of a prefix are distinct
 distinct_front : (a b : List Pair) → are_distinct (a ++ b) ≡ true → are_distinct a ≡ true
 distinct_front [] b h = refl
 distinct_front (p ∷ a) b h =
@@ -27,14 +27,14 @@ distinct_front (p ∷ a) b h =
     let distinct = distinct_front a b in
     grind arith
 
--- the text of a front is no longer
+-- the text of a prefix is no longer
 text_front : (a b : List Pair) → length (params_text a) ≤ length (params_text (a ++ b))
 text_front [] b = omega arith
 text_front (q ∷ []) [] = omega arith
 text_front (q ∷ []) (r ∷ b) = omega (arith, length-append (item q) (44 ∷ params_text (r ∷ b)))
 text_front (q ∷ r ∷ a) b = omega (arith, text_front (r ∷ a) b, length-append {A = ℕ})
 
--- the front of a list in the grammar is in the grammar
+-- a prefix of a list in the grammar is in the grammar
 pub params_front : (a b : List Pair) → are_params (a ++ b) ≡ true → are_params a ≡ true
 params_front a b h = grind (arith, distinct_front, text_front, list_all-append, nat_tests)
 

@@ -68,7 +68,7 @@ pairs_again (p ∷ ps) h =
 
 -- ---- a list with one more
 
--- an item behind other text
+-- an item after other text
 with_item_some : (t : List ℕ) (p : Pair) → 0 < length t → with_item t p ≡ t ++ 44 ∷ item p
 with_item_some t p h = grind arith
 

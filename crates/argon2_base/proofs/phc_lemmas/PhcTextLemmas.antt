@@ -43,17 +43,17 @@ fields_lack v h =
 
 -- ---- the fields joined
 
--- fields behind a `$` each are fields joined by `$` behind one
+-- fields after a `$` each are fields joined by `$` after one
 pub flat_map-dollar : (x : List ℕ) (xs : List (List ℕ))
     → flat_map (λ f. 36 ∷ f) (x ∷ xs) ≡ 36 ∷ join_with_byte 36 (x ∷ xs)
 flat_map-dollar x [] = ap (λ (t : List ℕ). 36 ∷ t) (append-nil x)
 flat_map-dollar x (y ∷ xs) = ap (λ (t : List ℕ). 36 ∷ (x ++ t)) (flat_map-dollar y xs)
 
--- the fields behind the version
+-- the fields after the version
 abbrev pub from_params : Phc → List (List ℕ)
 from_params v = list_field v.params ++ (field strict_base64 v.salt ++ field strict_base64 v.hash)
 
--- the fields behind the parameters
+-- the fields after the parameters
 abbrev pub from_salt : Phc → List (List ℕ)
 from_salt v = field strict_base64 v.salt ++ field strict_base64 v.hash
 
@@ -91,7 +91,7 @@ bytes_no_item : (o r : Option (List ℕ)) → IfSome o (HasBytes 8 48) → IfSom
     → HasNoItemFirst (field strict_base64 o ++ field strict_base64 r)
 bytes_no_item o r h k p more e = grind (arith, base64_no_item)
 
--- behind the parameters there is no item
+-- after the parameters there is no item
 pub no_item : (v : Phc) → IsPhc v → HasNoItemFirst (from_salt v)
 no_item v h = bytes_no_item v.salt v.hash h.salt h.hash
 
@@ -103,7 +103,7 @@ list_no_version (p ∷ ps) rest h k d more e =
     let t = text_item p ps in
     grind (arith, pair_again p.0 t.0, name_lacks 61 refl p.0, param_name p, all_params (p ∷ ps))
 
--- behind the version there is no version
+-- after the version there is no version
 pub no_version : (v : Phc) → IsPhc v → HasNoVersionFirst (from_params v)
 no_version v h = list_no_version v.params (from_salt v) h.params (no_item v h)
 

@@ -7,7 +7,7 @@ use Rattle.argon2_base.proofs.phc_lemmas.Base64Lemmas.{IsUtf8-strict_base64}
 use Rattle.argon2_base.proofs.phc_lemmas.Characters.{name_utf8, tests_give}
 use Rattle.argon2_base.proofs.phc_lemmas.ParamsTextLemmas.{all_params, param_name, param_value}
 
--- text behind an ASCII character is text
+-- text after an ASCII character is text
 behind : {c : ℕ} {s : List ℕ} → T (ltb c 128) → IsUtf8 s → IsUtf8 (c ∷ s)
 behind {c} {s} low =
     IsUtf8-append (c ∷ []) s (IsUtf8-from_ascii _ (IsAscii-cons c [] (lit< low) IsAscii-nil))
@@ -35,14 +35,14 @@ items_utf8 : (p : Pair) (ps : List Pair) → list_all is_param (p ∷ ps) ≡ tr
 items_utf8 p [] h = item_utf8 p (and_parts _ true h).0
 items_utf8 p (q ∷ ps) h = grind (arith, item_utf8 p, items_utf8 q ps, behind, IsUtf8-append (item p))
 
--- a field, if there is one, in front of fields
+-- a field, if there is one, before fields
 field_utf8 : {X : Type 0} (spell : X → List ℕ) (o : Option X) (fs : List (List ℕ))
     → ((x : X) → o ≡ Some x → IsUtf8 (spell x)) → IsUtf8 (fields_text fs)
     → IsUtf8 (fields_text (field spell o ++ fs))
 field_utf8 spell None fs h k = k
 field_utf8 spell (Some x) fs h k = behind tt (IsUtf8-append (spell x) _ (h x refl) k)
 
--- parameters, if there are any, in front of fields
+-- parameters, if there are any, before fields
 list_utf8 : (ps : List Pair) (fs : List (List ℕ)) → list_all is_param ps ≡ true
     → IsUtf8 (fields_text fs) → IsUtf8 (fields_text (list_field ps ++ fs))
 list_utf8 [] fs h k = k

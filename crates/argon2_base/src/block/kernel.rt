@@ -1,5 +1,5 @@
 //! The mixing of two blocks over eight vectors of sixteen words, each a row. P goes on four rows or four
-//! columns at once, over four vectors: then GB is four chains, none of which waits for another.
+//! columns at once, over four vectors, so the four computations of GB do not wait for each other.
 
 ghost use Rattle.std.specs.Prelude.{◌≡◌, ℕ, ◌+◌, ◌-◌, ◌*◌, ◌/◌, ◌%◌, ◌<◌, ◌≤◌, List, length, slice_index, bit_xor, if◌then◌else◌};
 ghost use Rattle.argon2_base.specs.Block.{add_mul, gb, mixed, perm, xor_blocks, xor_rotate};

@@ -245,7 +245,7 @@ fn columns(x: [u64x8; 16]) -> [u64x8; 16]
     ]
 }
 
-// The words of row i of the columns, each xored with its word of the vectors left and right.
+// Writes row i: the mixed words, xored with the vectors `left` and `right`, which hold the inputs.
 #[inline(always)]
 fn store_row(out: &mut [u64], i: usize, even: u64x8, odd: u64x8, left: u64x8, right: u64x8)
     requires { (i < 8) × (length out.old ≡ 128) }

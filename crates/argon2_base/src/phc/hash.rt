@@ -148,7 +148,7 @@ impl fmt::Display for PasswordHash {
     }
 }
 
-// Appends a field behind its `$`.
+// Appends a field after its `$`.
 fn push_field(text: &mut Text, field: &str)
     requires { array_string_len text.old + length field.now < 326 }
     ensures bytes { text.new.bytes ≡ text.old.bytes ++ 36 ∷ field.now }

@@ -288,7 +288,7 @@ fn are_params_in(mut left: Option<&str>) -> bool
     true
 }
 
-// What is before and behind the first such byte. Items are short, so this takes less time than the
+// What is before and after the first such byte. Items are short, so this takes less time than the
 // search of `split_once`.
 pub(super) fn cut(text: &str, at: u8) -> Option<(&str, &str)>
     requires { at < 128 }

@@ -62,7 +62,7 @@ fn with_digit(mut text: ArrayString<10>, digit: u32) -> ArrayString<10>
     text
 }
 
-/// The number up to 4294967295 whose decimal a text is, if it is one: no sign, and no zero in front of
+/// The number up to 4294967295 whose decimal a text is, if it is one: no sign, and no zero before
 /// other digits.
 pub fn read_decimal(text: &str) -> Option<u32>
     ensures found { IfSome result (λ n. text.now ≡ decimal n) }

@@ -1,4 +1,4 @@
-//! Parameters of a C caller: why they are refused, the text of a hash, and memory that is filled.
+//! Parameters of a C caller: why they are refused, and the text of a hash.
 
 ghost use Rattle.std.specs.Prelude.{◌≡◌, ◌≢◌, ◌++◌, ◌∷◌, None, unwrap_or, suc, length, drop};
 ghost use Rattle.std.specs.Option.{option_or};
@@ -45,7 +45,7 @@ fn output_of(lengths: &PhcLengths) -> Option<usize>
     }
 }
 
-// Why parameters are refused, of which outputs have this length, if it is set.
+// Why parameters are refused. If `output` is set, outputs have this length.
 fn params_refusal(
     request: &Request,
     output: Option<usize>,
@@ -90,8 +90,8 @@ pub extern "C" fn argon2_c_params_refusal(request: &Request, lengths: &PhcLength
     .unwrap_or(OK)
 }
 
-/// The code of the first fault of parameters, and then of a text with a salt and a hash of so many bytes of a
-/// password of so many; or 0.
+/// The code of the first fault of the parameters, else of the lengths `salt`, `hash` and `pwd` of a text's salt, its hash and
+/// the password, else 0.
 #[unsafe(no_mangle)]
 pub extern "C" fn argon2_c_text_refusal(
     request: &Request,
@@ -112,7 +112,7 @@ pub extern "C" fn argon2_c_text_refusal(
     }
 }
 
-// Why no text is made with a salt and a hash of so many bytes, of a password of so many.
+// Why no text is made, by the lengths of its salt and its hash and the length of the password.
 fn text_refusal(salt: usize, hash: usize, pwd: usize) -> Option<i32>
     ensures { result ≡ first_of (making_faults salt hash pwd) }
 {
@@ -131,8 +131,8 @@ fn text_refusal(salt: usize, hash: usize, pwd: usize) -> Option<i32>
     }
 }
 
-/// The code of the first fault of parameters, whose data has up to 4294967295 bytes and whose key identifier has
-/// none, and then of a tag of so many bytes of a password and a salt of so many; or 0.
+/// The code of the first fault of the parameters, else of the lengths of a raw tag, a password and a salt, else 0. Associated
+/// data may have up to 4294967295 bytes, and no key identifier is allowed.
 #[unsafe(no_mangle)]
 pub extern "C" fn argon2_c_tag_refusal(
     request: &Request,
@@ -154,7 +154,7 @@ pub extern "C" fn argon2_c_tag_refusal(
     }
 }
 
-// Why no tag of so many bytes is made of a password and a salt of so many.
+// Why no tag of `out` bytes is made, by this length and the lengths of the password and the salt.
 fn tag_refusal(output: Option<usize>, out: usize, pwd: usize, salt: usize) -> Option<i32>
     ensures { result ≡ first_of (tag_faults output out pwd salt) }
 {
@@ -173,7 +173,7 @@ fn tag_refusal(output: Option<usize>, out: usize, pwd: usize, salt: usize) -> Op
     }
 }
 
-/// Writes the text of parameters with this salt and this hash, and a zero byte behind it, and returns 0.
+/// Writes the text of parameters with this salt and this hash, and a zero byte after it, and returns 0.
 ///
 /// # Errors
 /// The first of these that holds; `out` is then as before:
@@ -211,7 +211,7 @@ pub extern "C" fn argon2_c_phc_encode(
     OK
 }
 
-// The value of parameters, a salt and a hash, of which nothing is refused.
+// The value of parameters, a salt and a hash, none of which is refused.
 fn value_of(
     request: &Request,
     keyid: &[u8],

@@ -18,7 +18,7 @@ use argon2::password_hash::Settings;
 use argon2::phc::are_equal;
 use itoa::Buffer;
 
-/// What a text shows. Bytes behind those that it has are 0.
+/// What a text shows. The bytes after each value are 0.
 #[repr(C)]
 #[derive(Clone, Copy)]
 pub struct PhcShown {

@@ -31,8 +31,8 @@ pub struct PhcBound {
     pub max_output: u32,
 }
 
-/// Admits a text that asks for no more than a bound, for a password, a secret and an old secret of so many bytes, 0 if there is
-/// none. Writes what the text shows into `shown`, and returns 0. `argon2_c_hash` then takes the request that is shown.
+/// Reads a text, and checks its costs against a bound, and the lengths of the password and of both secrets, where 0 is no
+/// secret. Writes what the text shows into `shown`, and returns 0. `argon2_c_hash` then takes the request that is shown.
 ///
 /// # Errors
 /// The first of these that holds; `shown` is then as before:
@@ -102,7 +102,7 @@ fn is_within(bound: &PhcBound, params: &Params) -> bool
         && params.p_cost() <= bound.p_cost
 }
 
-// Why a password and two secrets of so many bytes are refused.
+// Why the lengths of a password and of two secrets are refused.
 fn key_refusal(pwd: usize, secret: usize, old_secret: usize) -> Option<i32>
     ensures { result ≡ first_of (key_faults pwd secret old_secret) }
 {

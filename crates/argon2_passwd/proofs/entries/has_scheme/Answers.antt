@@ -4,7 +4,7 @@ use Rattle.argon2_passwd.specs.Lines.{has_field}
 use Rattle.argon2_passwd.proofs.entries.has_scheme.Goals.{After-scheme_of}
 use Rattle.argon2_passwd.proofs.entries.has_scheme.Goals as goal
 
--- what is behind a lock, or the text
+-- what is after a lock, or the text
 unlocked : (text : List ℕ) (r : Option (Bor (List ℕ))) (whole : Bor (List ℕ)) → option_copied r ≡ after_lock text
     → whole.now ≡ text → (unwrap_or r whole).now ≡ without_lock text
 unlocked text r whole same is = grind arith

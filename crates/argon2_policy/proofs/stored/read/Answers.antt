@@ -4,7 +4,7 @@ use Rattle.argon2_schemes.specs.Locks.{after_lock, is_locked}
 use Rattle.argon2_policy.proofs.PolicyLemmas.{err_is}
 use Rattle.argon2_policy.proofs.stored.read.Goals as goal
 
--- a text that has nothing behind a lock is not locked
+-- a text that has nothing after a lock is not locked
 open_is : (text : List ℕ) (r : Option (Bor (List ℕ))) {b : Bool} → option_copied r ≡ after_lock text → b ≡ is_some r
     → b ≡ false → is_locked text ≡ false
 open_is text r behind some isnt = grind arith

@@ -11,7 +11,7 @@ use Rattle.argon2.proofs.bound.Bound.verify.Goals as goal
 err_is : {X E : Type 0} (r : Result X E) (e : E) → IsErrAnd r (λ f. f ≡ e) → r ≡ Err e
 err_is r e is = grind arith
 
--- a value of which nothing is read is not accepted, for that reason
+-- a value that can't be read is not accepted, for the same reason
 faulty : {X Y : Type 0} (r : Result X Fault) (next : X → Result Y Fault) (fault : Fault) → r ≡ Err fault → Err fault
     ≡ result_and_then r next
 faulty r next fault is = grind arith

@@ -25,7 +25,7 @@ part_more {rest = rest} part reads feed at = record {
 none_before : (bytes : List ℕ) (end : ℕ) → Nowhere (Passes (is_byte 10) bytes) 0 end → HasNoFeed (take end bytes)
 none_before bytes end never = λ k d below. grind (arith, common_steps, never k)
 
--- the bytes before the first line feed, and behind it
+-- the bytes before the first line feed, and after it
 at_feed : (bytes : List ℕ) (end : ℕ) → end < length bytes → Passes (is_byte 10) bytes end
     → bytes ≡ take end bytes ++ 10 ∷ drop (end + 1) bytes
 at_feed bytes end below is = grind (arith, common_steps)

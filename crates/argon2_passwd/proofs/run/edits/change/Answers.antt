@@ -6,7 +6,7 @@ use Rattle.argon2_passwd.proofs.run.edits.change.Goals as goal
 unread_unknown : (rest : Option (List ℕ)) (failure : Failure) → IsUnread rest failure → IsUnread None failure
 unread_unknown rest failure unread = grind arith
 
--- what is behind the first line is no new password
+-- what is after the first line is no new password
 not_new_behind : (input rest : Option (List ℕ)) (failure : Failure) → DropsThrough input rest 10 → IsNotNew rest failure
     → IsNotNew (behind input) failure
 not_new_behind None rest failure drops (inl unread) = inl (unread_unknown rest failure unread)
