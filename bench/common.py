@@ -52,7 +52,8 @@ def built(top, name, libraries, sources, words=()):
     """Builds a program over libraries of this repository, and of the kit, once for each processor.
 
     Returns its paths by processor. `sources` are its files by their names, and `words` are the
-    arguments of the run that ends each build. All is written below `top`.
+    arguments of the run that ends each build. All is written below `top`. (A source in this folder
+    ends in `.rattle`, since `rt ci` refuses a file `.rt` that belongs to no crate.)
     """
     needed = {"argon2", "argon2_base", *libraries.split()}
     own = [line for line in read(f"{TOP}/crates.txt").splitlines() if line.partition(":")[0] in needed]
