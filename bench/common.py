@@ -49,19 +49,24 @@ def write(path, text):
 
 
 def built(top, name, libraries, sources, words=()):
-    """Builds a program over libraries of this repository, and of the kit, once for each processor.
+    """Builds a program over libraries of this repository, with what these use, and of the kit, once for each processor.
 
     Returns its paths by processor. `sources` are its files by their names, and `words` are the
     arguments of the run that ends each build. All is written below `top`. (A source in this folder
     ends in `.rattle`, since `rt ci` refuses a file `.rt` that belongs to no crate.)
     """
-    needed = {"argon2", "argon2_base", *libraries.split()}
-    own = [line for line in read(f"{TOP}/crates.txt").splitlines() if line.partition(":")[0] in needed]
-    write(f"{top}/crates.txt", "\n".join([*own, f"{name}: {libraries}", ""]))
+    lines = {line.partition(":")[0]: line for line in read(f"{TOP}/crates.txt").splitlines()}
+    own, new = {}, libraries.split()
+    while new:
+        used = new.pop()
+        if used in lines and used not in own:
+            own[used] = lines[used]
+            new += lines[used].partition(":")[2].split()
+    write(f"{top}/crates.txt", "\n".join([*own.values(), f"{name}: {libraries}", ""]))
     os.makedirs(f"{top}/crates")
     os.symlink(f"{TOP}/build", f"{top}/build")
-    for line in own:
-        run("cp", "-r", f"{TOP}/crates/{line.partition(':')[0]}", f"{top}/crates")
+    for used in own:
+        run("cp", "-r", f"{TOP}/crates/{used}", f"{top}/crates")
     folder, programs = f"{top}/crates/{name}", {}
     for file, text in sources.items():
         write(f"{folder}/src/{file}", text)
