@@ -1,0 +1,54 @@
+"""The memory that hashes hold at once."""
+
+from __future__ import annotations
+
+import ctypes
+import threading
+from collections import deque
+from contextlib import contextmanager
+from typing import Iterator
+
+# mallopt(3): from how many bytes on malloc maps memory for one request only, and gives it back when it is freed. glibc begins
+# with this number, and raises it up to 32 MiB as a program frees memory. Each thread then keeps the memory of its last hash.
+_M_MMAP_THRESHOLD = -3
+_FIRST_THRESHOLD = 128 << 10
+
+
+class Busy(TimeoutError):
+    """A hash did not get its memory within the `timeout`. It says nothing about the password."""
+
+
+class Memory:
+    """Lends at most `limit` KiB at once. Requests are served in their order, so small ones do not starve a large one."""
+
+    def __init__(self, limit: int, timeout: float | None) -> None:
+        self._free = self._limit = limit
+        self._timeout = timeout
+        self._lock = threading.Lock()
+        self._queue: deque[threading.Condition] = deque()
+        ctypes.CDLL(None).mallopt(_M_MMAP_THRESHOLD, _FIRST_THRESHOLD)
+
+    @contextmanager
+    def lend(self, size: int) -> Iterator[None]:
+        """Lends `size` KiB, at most `limit`, to what runs in this context, as soon as they are free."""
+        with self._lock:
+            turn = threading.Condition(self._lock)
+            self._queue.append(turn)
+            try:
+                if not turn.wait_for(lambda: self._queue[0] is turn and size <= self._free, self._timeout):
+                    raise Busy(f"{size} of {self._limit} KiB were not free within {self._timeout} seconds")
+                self._free -= size
+            finally:
+                self._queue.remove(turn)
+                self._wake()
+        try:
+            yield
+        finally:
+            with self._lock:
+                self._free += size
+                self._wake()
+
+    def _wake(self) -> None:
+        """Wakes the first that waits."""
+        if self._queue:
+            self._queue[0].notify()
