@@ -1,10 +1,30 @@
-"""The setting of a Django project whose new passwords are texts of Argon2id. It needs argon2-cffi.
+"""The settings of a Django project for passwords of Argon2 under a secret. They need the wheel.
 
-Django makes new texts by the first hasher. It reads a stored text by the hasher that made it, and a user whose hasher is not in the
-list can't log in. So Django's own list stays behind Argon2. Add each further hasher of which your database has a text.
+Django makes new passwords by the first hasher. It verifies a stored one by the hasher that made it, so a user whose hasher is not
+in the list can't log in. Here are all hashers of Django's own list, with argon2_proved's in the place of Django's Argon2. Add
+each further hasher of which your database has a password.
 """
 
+import os
+from pathlib import Path
+
+from argon2_proved import Bound
 from django.conf import global_settings
 
-ARGON2 = "django.contrib.auth.hashers.Argon2PasswordHasher"
-PASSWORD_HASHERS = [ARGON2, *(it for it in global_settings.PASSWORD_HASHERS if it != ARGON2)]
+DJANGOS = "django.contrib.auth.hashers.Argon2PasswordHasher"
+PASSWORD_HASHERS = ["argon2_proved.django.PasswordHasher", *(it for it in global_settings.PASSWORD_HASHERS if it != DJANGOS)]
+ARGON2_PROVED = {
+    # (systemd puts the file there, by LoadCredential=argon2_secret:PATH)
+    "secret": Path(os.environ["CREDENTIALS_DIRECTORY"], "argon2_secret").read_bytes(),
+    "keyid": b"1",
+    # Passwords of Argon2 that were stored without a secret are verified without one, until their users have logged in.
+    "old_secret": b"",
+    # What new passwords cost, which is here the same as in Django's class, and what a stored one may cost.
+    "memory_cost": 102400,
+    "time_cost": 2,
+    "parallelism": 8,
+    "bound": Bound(memory_cost=102400, time_cost=4, parallelism=8),
+    # How many KiB all hashes of a process hold at once, and how many seconds a hash waits for them.
+    "max_memory": 409600,
+    "timeout": 10,
+}

@@ -1,0 +1,149 @@
+"""Argon2 for Django's PASSWORD_HASHERS, with a secret, a bound on what a stored password may cost, and a bound on memory.
+
+`argon2_proved.django.PasswordHasher` replaces Django's Argon2PasswordHasher. Its stored passwords have the same algorithm and the
+same form. The setting ARGON2_PROVED is a dict of arguments of `argon2_proved.PasswordHasher`. The costs that the dict lacks are
+those of Django's class, and everything else that it lacks has the default of `argon2_proved.PasswordHasher`.
+
+`keyid` names the secret. If there is an `old_secret`, a stored password with this `keyid` is verified under `secret`, and each
+other stored password under `old_secret`: Django asks whether a password must be stored anew before Django verifies the password.
+An `old_secret` of no bytes is for passwords that were stored without a secret.
+"""
+
+from __future__ import annotations
+
+import contextlib
+import logging
+from typing import Any
+
+from django.conf import settings
+from django.contrib.auth import hashers
+from django.core.exceptions import ImproperlyConfigured
+from django.core.signals import setting_changed
+from django.dispatch import receiver
+from django.utils.translation import gettext_noop as _
+
+import argon2_proved
+
+from ._memory import Memory
+
+LOG = logging.getLogger(__name__)
+# The most characters that Django's field for a stored password holds.
+ROOM = 128
+
+
+class PasswordHasher(hashers.BasePasswordHasher):
+    """Makes and verifies stored passwords. A stored password that is damaged or above the bound accepts none, and is logged."""
+
+    algorithm = "argon2"
+
+    def __init__(self) -> None:
+        costs = {it: getattr(hashers.Argon2PasswordHasher, it) for it in ("time_cost", "memory_cost", "parallelism")}
+        self._options = {**costs, **getattr(settings, "ARGON2_PROVED", {})}
+        old_secret = self._options.pop("old_secret", None)
+        self._memory: Memory | None = None
+        try:
+            self._new = self._hasher()
+            self._memory = self._new._memory
+            self._old = None if old_secret is None else self._hasher(secret=old_secret)
+        except (argon2_proved.Error, OverflowError, TypeError, ValueError) as error:
+            raise ImproperlyConfigured(f"ARGON2_PROVED: {error}") from error
+        if self._old and not self._new.keyid:
+            raise ImproperlyConfigured("ARGON2_PROVED: an old_secret needs a keyid, which names the new secret")
+        new, most = self._new._params, self._new._verifier
+        is_accepted = new.m_cost <= most.m_cost and new.t_cost <= most.t_cost and new.p_cost <= most.p_cost
+        if not (is_accepted and most.min_output <= new.output_len <= most.max_output):
+            raise ImproperlyConfigured("ARGON2_PROVED: new passwords would be out of the bound")
+
+    def encode(self, password: str | bytes, salt: str) -> str:
+        """What is stored of a password and a salt of 8 to 48 bytes."""
+        encoded = self.algorithm + self._new.hash(password, salt=salt.encode())
+        if len(encoded) > ROOM:
+            why = f"a stored password has {len(encoded)} characters, and Django has room for {ROOM}"
+            raise ImproperlyConfigured(f"ARGON2_PROVED: {why}: keyid, data or hash_len are too long")
+        return encoded
+
+    def decode(self, encoded: str) -> dict[str, Any]:
+        """What a stored password shows. If it is damaged, that is an `argon2_proved.Error`."""
+        shown = argon2_proved.parse(self._text(encoded))
+        return {
+            "algorithm": self.algorithm,
+            "variety": f"argon2{shown.algorithm.name.lower()}",
+            "version": shown.version,
+            "memory_cost": shown.memory_cost,
+            "time_cost": shown.time_cost,
+            "parallelism": shown.parallelism,
+            "keyid": shown.keyid,
+            "salt": shown.salt.decode("latin1"),
+            "hash": encoded.rpartition("$")[2],
+        }
+
+    def verify(self, password: str | bytes, encoded: str) -> bool:
+        """Whether a stored password accepts a password. If there is no memory, that is an error, as it is no answer."""
+        text = self._text(encoded)
+        try:
+            return self._hasher_of(text).verify(text, password)
+        except (argon2_proved.Mismatch, ValueError):
+            # (a ValueError is a password that has no bytes in UTF-8)
+            return False
+        except argon2_proved.Error as error:
+            if error.name == "OUT_OF_MEMORY":
+                raise
+            LOG.error("a stored password is not verified: %s", error)
+            return False
+
+    def must_update(self, encoded: str) -> bool:
+        """Whether a stored password is weaker than new ones, or has another keyid. One that costs more stays as it is."""
+        text = self._text(encoded)
+        try:
+            return self._new.is_weaker(text) or len(argon2_proved.parse(text).salt) * 8 < self.salt_entropy
+        except argon2_proved.Error:
+            # (it accepts no password, so nothing is stored in its place)
+            return False
+
+    def harden_runtime(self, password: str | bytes, encoded: str) -> None:
+        """After a stored password has refused a password: does the work by which a new hash exceeds the stored one.
+
+        Work is memory times passes. So the time of a refusal shows little of whose stored password is weaker.
+        """
+        wanted = self._new._params
+        with contextlib.suppress(argon2_proved.Error, argon2_proved.Busy, ValueError):
+            shown = argon2_proved.parse(self._text(encoded))
+            memory = wanted.m_cost - shown.memory_cost * shown.time_cost // wanted.t_cost
+            if memory >= 8 * wanted.p_cost:
+                self._hasher(memory_cost=memory).hash(password)
+
+    def safe_summary(self, encoded: str) -> dict[str, Any]:
+        """What Django's admin may show of a stored password, under the names that Django's Argon2PasswordHasher uses."""
+        shown = self.decode(encoded)
+        return {
+            _("algorithm"): shown["algorithm"],
+            _("variety"): shown["variety"],
+            _("version"): shown["version"],
+            _("memory cost"): shown["memory_cost"],
+            _("time cost"): shown["time_cost"],
+            _("parallelism"): shown["parallelism"],
+            _("salt"): hashers.mask_hash(shown["salt"]),
+            _("hash"): hashers.mask_hash(shown["hash"]),
+        }
+
+    def _text(self, encoded: str) -> str:
+        """The text of Argon2 in a stored password."""
+        return encoded[len(self.algorithm) :]
+
+    def _hasher(self, **changes: Any) -> argon2_proved.PasswordHasher:
+        """A hasher of the setting with these changes. All hashers of this object share the bound on memory."""
+        hasher = argon2_proved.PasswordHasher(**{**self._options, **changes})
+        hasher._memory = self._memory or hasher._memory
+        return hasher
+
+    def _hasher_of(self, text: str) -> argon2_proved.PasswordHasher:
+        """The hasher with the secret of a text."""
+        is_new = self._old is None or argon2_proved.parse(text).keyid == self._new.keyid
+        return self._new if is_new else self._old
+
+
+@receiver(setting_changed)
+def _reset_hashers(*, setting: str, **_more: Any) -> None:
+    """Has Django read ARGON2_PROVED anew if a test overrides it, as Django does for PASSWORD_HASHERS."""
+    if setting == "ARGON2_PROVED":
+        hashers.reset_hashers(setting="PASSWORD_HASHERS")
