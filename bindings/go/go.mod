@@ -1,0 +1,3 @@
+module argon2proved
+
+go 1.19
