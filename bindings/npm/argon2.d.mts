@@ -43,6 +43,19 @@ export interface Bound {
   maxLength?: number;
 }
 
+/** What a login is answered under: what the stored text is verified under, and the settings of new texts. */
+export interface LogInOptions extends TextOptions {
+  /** Is tried if the text does not accept the password under the secret. */
+  oldSecret?: Bytes | undefined;
+  bound?: Bound;
+}
+
+/** The answer to a login that is accepted. */
+export interface LogInAnswer {
+  /** The text to store from now on instead of the stored one, or `null` if nothing is to be stored. */
+  hash: string | null;
+}
+
 /** What a text shows. The salt and the hash are empty if it has none. */
 export interface Parsed {
   algorithm: Algorithm;
@@ -68,8 +81,20 @@ export class Argon2 {
   private constructor();
   /** The PHC text of a password, with this salt of 8 to 48 bytes, or one of 16 bytes that the system draws. */
   hash(password: Bytes, options?: TextOptions & { salt?: Bytes }): string;
-  /** Whether a text accepts a password under the secret or, if it is given, the old secret. */
+  /** Whether a text accepts a password under the secret or, if it is given, the old secret. It does not say under which. */
   verify(text: Bytes, password: Bytes, options?: { secret?: Bytes; oldSecret?: Bytes | undefined; bound?: Bound }): boolean;
+  /**
+   * Answers a login. The answer is `null` if a text does not accept the password, as `verify` decides. Otherwise it is an object,
+   * whose `hash` is a new text to store from now on, or `null` if the stored text stays.
+   *
+   * `logIn` makes a new text under these options in two cases. In the first, only the old secret accepted the password. In the
+   * second, the stored text is weaker than new texts: it has another algorithm, version, key identifier or data, less memory,
+   * fewer passes or lanes, or a shorter hash. Higher costs and a longer hash stay.
+   *
+   * If there is no memory for a new text, the stored text stays. Options under which no text can be made are refused at each
+   * login, whatever the text and the password are.
+   */
+  logIn(text: Bytes, password: Bytes, options?: LogInOptions): LogInAnswer | null;
   /** Whether a text shows other settings than the wanted ones. It does not show its secret. */
   needsRehash(text: Bytes, wanted?: TextOptions): boolean;
   /** What a text shows. Nothing is hashed. */

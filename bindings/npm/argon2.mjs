@@ -1,7 +1,7 @@
 // What each entry of the package has. The functions of the module are proved to decide, hash, read and write texts as their
 // contracts say; this copies their inputs and outputs, and names what they answer.
 
-import { Argon2Error, MISMATCH, must } from "./error.mjs";
+import { Argon2Error, MISMATCH, must, OUT_OF_MEMORY } from "./error.mjs";
 import { Instance } from "./instance.mjs";
 import { complete } from "./options.mjs";
 
@@ -13,6 +13,7 @@ const TAG = { ...COSTS, secret: "", data: "" };
 const TEXT = { ...TAG, keyid: "" };
 // What a phone bears: the worst text takes 256 MiB, and as long as eleven hashes of 64 MiB and three passes.
 const BOUND = { memory: 262144, passes: 8, lanes: 16, minLength: 16, maxLength: 64 };
+const VERIFYING = { secret: "", oldSecret: undefined, bound: BOUND };
 
 const DRAWN_SALT = 16;
 const TEXT_SIZE = 327;
@@ -33,34 +34,34 @@ export class Argon2 {
 
   /** The PHC text of a password. */
   hash(password, options = {}) {
-    const wanted = complete({ ...TEXT, salt: crypto.getRandomValues(new Uint8Array(DRAWN_SALT)) }, options);
+    const wanted = complete({ ...TEXT, salt: drawSalt() }, options);
     return this.#use((instance) => {
       const inputs = new Inputs(instance, wanted, password, wanted.salt);
-      must(inputs.refusal("text_refusal", inputs.salt[1], BigInt(wanted.length), inputs.password[1]));
+      must(inputs.textRefusal());
       return inputs.text(inputs.tag());
     });
   }
 
   /** Whether a text accepts a password. */
   verify(text, password, options = {}) {
-    const { secret, oldSecret, bound } = complete({ secret: "", oldSecret: undefined, bound: BOUND }, options);
-    const most = complete(BOUND, bound);
-    return this.#use((instance) => {
-      const limits = instance.writeNumbers(...Object.entries(most).map(([name, value]) => whole(value, `the bound's ${name}`)));
-      const [stored, given] = [instance.write(text, "the text"), instance.write(password, "the password")];
-      const key = instance.write(secret, "the secret");
-      const oldKey = oldSecret === undefined ? undefined : instance.write(oldSecret, "the old secret");
-      const shown = show(instance, "phc_admit", limits, ...stored, given[1], key[1], oldKey?.[1] ?? 0n);
-      const inputs = new Inputs(instance, { ...shown, length: shown.hash.length, secret: "" }, "", shown.salt);
-      const hash = instance.write(shown.hash, "the hash");
-      inputs.password = given;
-      const accepts = (secret) => {
-        inputs.secret = secret;
-        const answer = instance.call("compare", ...hash, ...inputs.tag());
-        return answer === MISMATCH ? false : must(answer) === 0;
-      };
-      return accepts(key) || (oldKey !== undefined && accepts(oldKey));
-    });
+    return this.#acceptedUnder(text, password, complete(VERIFYING, options)) !== undefined;
+  }
+
+  /** Whether a text accepts a password, and the text to store from now on. */
+  logIn(text, password, options = {}) {
+    const { oldSecret, bound, ...wanted } = complete({ ...VERIFYING, ...TEXT }, options);
+    // (so that wrong settings are found at the first login, and not when a text is renewed)
+    this.#use((instance) => must(new Inputs(instance, wanted, password, new Uint8Array(DRAWN_SALT)).textRefusal()));
+    const name = this.#acceptedUnder(text, password, { secret: wanted.secret, oldSecret, bound });
+    if (name === undefined) return null;
+    if (name === "secret" && !this.#isWeaker(text, wanted)) return { hash: null };
+    try {
+      return { hash: this.hash(password, wanted) };
+    } catch (error) {
+      // (a user whose password is accepted gets no error)
+      if (error instanceof Argon2Error && error.number === OUT_OF_MEMORY) return { hash: null };
+      throw error;
+    }
   }
 
   /** Whether a text shows other settings than the wanted ones. It does not show its secret. */
@@ -105,6 +106,36 @@ export class Argon2 {
     } finally {
       instance.clear();
     }
+  }
+
+  // The name of the secret under which a text accepts a password, if it does.
+  #acceptedUnder(text, password, { secret, oldSecret, bound }) {
+    const most = complete(BOUND, bound);
+    return this.#use((instance) => {
+      const limits = instance.writeNumbers(...Object.entries(most).map(([name, value]) => whole(value, `the bound's ${name}`)));
+      const [stored, given] = [instance.write(text, "the text"), instance.write(password, "the password")];
+      const key = instance.write(secret, "the secret");
+      const oldKey = oldSecret === undefined ? undefined : instance.write(oldSecret, "the old secret");
+      const shown = show(instance, "phc_admit", limits, ...stored, given[1], key[1], oldKey?.[1] ?? 0n);
+      const inputs = new Inputs(instance, { ...shown, length: shown.hash.length, secret: "" }, "", shown.salt);
+      const hash = instance.write(shown.hash, "the hash");
+      inputs.password = given;
+      const accepts = (secret) => {
+        inputs.secret = secret;
+        const answer = instance.call("compare", ...hash, ...inputs.tag());
+        return answer === MISMATCH ? false : must(answer) === 0;
+      };
+      if (accepts(key)) return "secret";
+      return oldKey !== undefined && accepts(oldKey) ? "oldSecret" : undefined;
+    });
+  }
+
+  // Whether a text is weaker than new ones: it shows other settings, and higher costs and a longer hash do not count.
+  #isWeaker(text, wanted) {
+    const { hash, ...shown } = this.parse(text);
+    const higher = ["memory", "passes", "lanes"].map((name) => [name, Math.max(shown[name], wanted[name])]);
+    const length = Math.max(hash.length, wanted.length);
+    return this.needsRehash(text, { ...wanted, ...Object.fromEntries(higher), length });
   }
 
   // Calls a function with an instance. One whose call failed is dropped, as it may have stopped anywhere.
@@ -161,6 +192,10 @@ class Inputs {
 
   tagRefusal() {
     return this.refusal("tag_refusal", BigInt(this.#wanted.length), this.password[1], this.salt[1]);
+  }
+
+  textRefusal() {
+    return this.refusal("text_refusal", this.salt[1], BigInt(this.#wanted.length), this.password[1]);
   }
 
   // The place of the tag of inputs that are not refused. The next tag has the same blocks, and the same place.
@@ -229,6 +264,10 @@ function blockCount(memory, lanes) {
 function whole(value, name) {
   if (Number.isInteger(value) && value >= 0 && value < 2 ** 32) return value;
   throw new RangeError(`${name} is no whole number from 0 to 4294967295`);
+}
+
+function drawSalt() {
+  return crypto.getRandomValues(new Uint8Array(DRAWN_SALT));
 }
 
 /** Makes it of a module, its bytes, a response with them, or a promise of one of these. */

@@ -4,7 +4,7 @@ import { Argon2Error } from "./error.mjs";
 import { isBytes } from "./instance.mjs";
 import { requirePlain } from "./options.mjs";
 
-const NAMES = ["hash", "verify", "needsRehash", "parse", "raw"];
+const NAMES = ["hash", "verify", "logIn", "needsRehash", "parse", "raw"];
 
 /**
  * Answers calls by what is loaded. It takes a promise of that, and what posts an answer, and returns what takes a call. The bytes

@@ -3,7 +3,8 @@
 import { spawnSync } from "node:child_process";
 import { readFileSync } from "node:fs";
 import { pathToFileURL } from "node:url";
-import { check, KNOWN, MODULES, runTests, thrown, toHex, tryCalls, tryModules, tryWorker } from "./tests.mjs";
+import { check, thrown } from "./checks.mjs";
+import { KNOWN, MODULES, runTests, toHex, tryCalls, tryModules, tryWorker } from "./tests.mjs";
 
 const folder = pathToFileURL(`${process.argv[2]}/`);
 const readModule = (name) => new Uint8Array(readFileSync(new URL(name, folder)));

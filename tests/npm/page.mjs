@@ -2,8 +2,9 @@
 
 import * as entry from "./argon2-proved/page.mjs";
 import { start } from "./argon2-proved/page-worker.mjs";
+import { check } from "./checks.mjs";
 import { makeKey } from "./key.mjs";
-import { check, KNOWN, MODULES, runTests, toHex, tryModules, tryWorker } from "./tests.mjs";
+import { KNOWN, MODULES, runTests, toHex, tryModules, tryWorker } from "./tests.mjs";
 
 const TESTS = {
   "the entries have the module of the package": async () => {

@@ -1,6 +1,8 @@
 // What is tried in node and in pages.
 
 import { TAGS, TEXTS } from "./cases.mjs";
+import { check, thrown } from "./checks.mjs";
+import { LOG_IN_TESTS } from "./log-in.mjs";
 
 export const MODULES = ["argon2.wasm", "argon2-simd.wasm"];
 
@@ -26,20 +28,6 @@ const INHERITED = [new Settings(), Object.create({ secret: "some secret" }), 12,
 
 export const toHex = (bytes) => Array.from(bytes, (it) => it.toString(16).padStart(2, "0")).join("");
 const fromHex = (digits) => Uint8Array.from(digits.match(/../g) ?? [], (it) => parseInt(it, 16));
-
-export function check(holds, ...found) {
-  if (!holds) throw new Error(found.map((it) => (typeof it === "string" ? it : JSON.stringify(it))).join(" "));
-}
-
-/** The error that a call throws, or whose promise is rejected by it. */
-export async function thrown(call) {
-  try {
-    await call();
-  } catch (error) {
-    return error;
-  }
-  throw new Error(`no error by ${call}`);
-}
 
 /** The instances of modules that a function makes. */
 async function instancesOf(body) {
@@ -337,6 +325,8 @@ export async function tryWorker(start) {
   const worker = start();
   const text = await worker.hash("x", { memory: 64 });
   check((await worker.verify(text, "x")) && !(await worker.verify(text, "y")) && (await worker.needsRehash(text)), text);
+  check((await worker.logIn(text, "y")) === null && (await worker.logIn(text, "x", { memory: 64 })).hash === null, text);
+  check(!(await worker.needsRehash((await worker.logIn(text, "x")).hash)), text);
   check((await worker.parse(text)).memory === 64);
   const tags = await Promise.all([4, 5, 6].map((length) => worker.raw("x", "somesalt", { length })));
   check(tags.map((it) => it.length).join() === "4,5,6", tags);
@@ -358,7 +348,8 @@ export async function runTests(entry, modules, show, further) {
   const counts = { passed: 0, failed: 0 };
   for (const bytes of modules) {
     const module = await WebAssembly.compile(bytes);
-    await tryAll(TESTS, async (test) => test({ ...entry, argon2: await entry.load(module) }, module, bytes), show, counts);
+    const run = async (test) => test({ ...entry, argon2: await entry.load(module) }, module, bytes);
+    await tryAll({ ...TESTS, ...LOG_IN_TESTS }, run, show, counts);
   }
   await tryAll(further, (test) => test(), show, counts);
   return counts;

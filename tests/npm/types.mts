@@ -1,6 +1,6 @@
 // What the types of the package take and refuse, by `tsc --strict` (tests/npm/run).
 
-import { Argon2, Argon2Error, load, type Bound, type TextOptions } from "argon2-proved";
+import { Argon2, Argon2Error, load, type Bound, type LogInAnswer, type LogInOptions, type TextOptions } from "argon2-proved";
 import { load as loadInline } from "argon2-proved/inline";
 import { start } from "argon2-proved/worker";
 
@@ -9,6 +9,9 @@ const settings: TextOptions = { algorithm: "argon2id", memory: 65536, passes: 3,
 const bound: Bound = { memory: 65536 };
 const text: string = argon2.hash("password", { ...settings, salt: new Uint8Array(16) });
 const accepts: boolean = argon2.verify(text, new ArrayBuffer(8), { secret: "secret", oldSecret: undefined, bound });
+const logInOptions: LogInOptions = { ...settings, oldSecret: "old secret", bound };
+const logIn: LogInAnswer | null = argon2.logIn(text, "password", logInOptions);
+const stored: string = logIn?.hash ?? text;
 const isOld: boolean = argon2.needsRehash(text, settings);
 const { version, salt }: { version: 16 | 19; salt: Uint8Array } = argon2.parse(text);
 const key: Uint8Array = await argon2.rawAsync("password", salt, {
@@ -19,9 +22,10 @@ const key: Uint8Array = await argon2.rawAsync("password", salt, {
 const tags: Uint8Array[] = [key, (await loadInline()).raw("password", salt, { length: 16 })];
 
 const worker = start();
-const answers: [string, boolean, Uint8Array] = [
+const answers: [string, boolean, LogInAnswer | null, Uint8Array] = [
   await worker.hash("password", settings),
   await worker.verify(text, "password", { bound }),
+  await worker.logIn(stored, "password", logInOptions),
   await worker.raw("password", salt),
 ];
 worker.terminate();
@@ -36,6 +40,10 @@ try {
 argon2.hash("password", { memory: "65536" });
 // @ts-expect-error: a tag has no key identifier
 argon2.raw("password", salt, { keyid: "key 1" });
+// @ts-expect-error: the salt of a new hash is drawn
+argon2.logIn(text, "password", { salt });
+// @ts-expect-error: a login that is refused has no hash
+argon2.logIn(text, "password").hash;
 // @ts-expect-error: there is no such option
 argon2.hash("password", { parallelism: 1 });
 // @ts-expect-error: `load` returns a promise
