@@ -19,7 +19,7 @@ export class Instance {
   #end;
 
   constructor(module) {
-    this.#exports = new WebAssembly.Instance(module).exports;
+    this.#exports = requested(() => new WebAssembly.Instance(module)).exports;
     this.#begin = this.#end = Number(this.#exports.__heap_base.value);
   }
 
@@ -104,11 +104,7 @@ export class Instance {
     const pages = Math.ceil((end - memory.buffer.byteLength) / PAGE);
     if (pages <= 0) return;
     if (end > LARGEST) throw new Argon2Error(OUT_OF_MEMORY);
-    try {
-      memory.grow(pages);
-    } catch (error) {
-      throw error instanceof RangeError ? new Argon2Error(OUT_OF_MEMORY) : error;
-    }
+    requested(() => memory.grow(pages));
   }
 
   #bytes([at, length]) {
@@ -117,6 +113,15 @@ export class Instance {
 
   #view([at, length]) {
     return new DataView(this.#exports.memory.buffer, Number(at), Number(length));
+  }
+}
+
+// The answer of what requests memory. If the engine refuses that, it is an error by name.
+function requested(body) {
+  try {
+    return body();
+  } catch (error) {
+    throw error instanceof RangeError ? new Argon2Error(OUT_OF_MEMORY) : error;
   }
 }
 

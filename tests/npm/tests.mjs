@@ -238,18 +238,23 @@ const TESTS = {
   },
 
   "memory that is refused": async ({ Argon2, Argon2Error }, module) => {
+    const { Instance } = WebAssembly;
     const { grow } = WebAssembly.Memory.prototype;
     const fresh = new Argon2(module);
-    WebAssembly.Memory.prototype.grow = () => {
+    // (a function, since one of them is a constructor)
+    const refuse = function () {
       throw new RangeError("refused");
     };
-    try {
-      for (const call of [() => fresh.raw("x", SALT), () => fresh.rawAsync("x", SALT), () => fresh.hash("x")]) {
-        const error = await thrown(call);
-        check(error instanceof Argon2Error && error.code === "OUT_OF_MEMORY", String(error));
+    for (const [holder, name, own] of [[WebAssembly.Memory.prototype, "grow", grow], [WebAssembly, "Instance", Instance]]) {
+      holder[name] = refuse;
+      try {
+        for (const call of [() => fresh.raw("x", SALT), () => fresh.rawAsync("x", SALT), () => fresh.hash("x")]) {
+          const error = await thrown(call);
+          check(error instanceof Argon2Error && error.code === "OUT_OF_MEMORY", name, String(error));
+        }
+      } finally {
+        holder[name] = own;
       }
-    } finally {
-      WebAssembly.Memory.prototype.grow = grow;
     }
     check(toHex(fresh.raw("password", SALT, { memory: 256 })) === KNOWN);
   },
