@@ -1,7 +1,7 @@
 // Calls of a worker's functions, which page and worker share.
 
 import { Argon2Error } from "./error.mjs";
-import { isBytes } from "./instance.mjs";
+import { bytesOf, isBytes } from "./instance.mjs";
 import { requirePlain } from "./options.mjs";
 
 const NAMES = ["hash", "verify", "logIn", "needsRehash", "parse", "raw"];
@@ -27,8 +27,8 @@ export function answering(loading, post) {
   };
 }
 
-// Clears all bytes in a value that was posted. The buffer of a view is posted as a whole, and memory that is shared is no copy.
-function clear(value) {
+/** Clears all bytes in a value that was copied. The buffer of a view is cleared as a whole, and memory that is shared is no copy. */
+export function clear(value) {
   if (isBytes(value)) {
     const buffer = value.buffer ?? value;
     if (buffer instanceof ArrayBuffer) new Uint8Array(buffer).fill(0);
@@ -37,11 +37,31 @@ function clear(value) {
   }
 }
 
-// Refuses options that are not plain, since a post takes what an object itself has, and leaves its prototype out.
-function requirePostable(word) {
-  if (!isObject(word) || isBytes(word)) return;
-  requirePlain(word);
-  Object.values(word).forEach(requirePostable);
+/**
+ * A copy of the words of a call, and the buffers of its bytes, each of which has only these bytes. Options that are not plain are
+ * refused, since a copy has what an object itself has, and leaves its prototype out.
+ */
+export function copied(words) {
+  const buffers = [];
+  const copyOf = (value) => {
+    if (isBytes(value)) {
+      const given = bytesOf(value);
+      // (an array that makes its own buffer may leave its bytes in another place too)
+      const bytes = new Uint8Array(new ArrayBuffer(given.length));
+      bytes.set(given);
+      buffers.push(bytes.buffer);
+      return bytes;
+    }
+    if (!isObject(value)) return value;
+    requirePlain(value);
+    return Object.fromEntries(Object.entries(value).map(([name, it]) => [name, copyOf(it)]));
+  };
+  try {
+    return { words: words.map(copyOf), buffers };
+  } catch (error) {
+    clear(buffers);
+    throw error;
+  }
 }
 
 function isObject(value) {
@@ -61,11 +81,28 @@ export class Calls {
 
   /** The worker's functions, each of which returns a promise. */
   functions() {
-    const terminate = () => {
-      this.end(new Error("the worker was terminated"));
-      this.#worker.terminate();
-    };
-    return { ...Object.fromEntries(NAMES.map((name) => [name, (...words) => this.#call(name, words)])), terminate };
+    const functionOf = (name) => async (...words) => this.call(name, copied(words));
+    return { ...Object.fromEntries(NAMES.map((name) => [name, functionOf(name)])), terminate: () => void this.terminate() };
+  }
+
+  /** Why the worker answers no more calls, if it does not. */
+  get ended() {
+    return this.#ended;
+  }
+
+  /** The answer to a call. The copy of its words goes to the worker, without a further copy of its bytes. */
+  async call(name, { words, buffers }) {
+    const id = this.#next++;
+    try {
+      if (this.#ended) throw this.#ended;
+      this.#worker.postMessage({ id, name, words }, buffers);
+    } catch (error) {
+      clear(words);
+      throw error;
+    }
+    // (node waits for a worker that it has a reference to)
+    this.#worker.ref?.();
+    return new Promise((resolve, reject) => this.#waiting.set(id, { resolve, reject }));
   }
 
   /** Takes an answer. (A worker that is terminated still delivers what it had posted, which nobody waits for.) */
@@ -87,14 +124,10 @@ export class Calls {
     }
   }
 
-  async #call(name, words) {
-    if (this.#ended) throw this.#ended;
-    words.forEach(requirePostable);
-    const id = this.#next++;
-    this.#worker.postMessage({ id, name, words });
-    // (node waits for a worker that it has a reference to)
-    this.#worker.ref?.();
-    return new Promise((resolve, reject) => this.#waiting.set(id, { resolve, reject }));
+  /** Ends the worker, and all calls. In node it returns a promise, which waits for the end. */
+  terminate() {
+    this.end(new Error("the worker was terminated"));
+    return this.#worker.terminate();
   }
 
   #remove(id) {

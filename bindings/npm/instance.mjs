@@ -130,7 +130,8 @@ export function isBytes(value) {
   return ArrayBuffer.isView(value) || value instanceof ArrayBuffer;
 }
 
-function bytesOf(value, name) {
+/** The bytes of a buffer or a view, which are not copied. */
+export function bytesOf(value, name) {
   if (!isBytes(value)) throw new TypeError(`${name} is neither a string nor bytes`);
   return ArrayBuffer.isView(value) ? new Uint8Array(value.buffer, value.byteOffset, value.byteLength) : new Uint8Array(value);
 }

@@ -289,11 +289,22 @@ export async function tryModules(load, lengths) {
 
 /**
  * Tries both ends of a worker's calls without a worker: an answer that nobody waits for is passed over, options whose
- * properties a post would leave out are refused, and the worker clears its copies of bytes.
+ * properties a post would leave out are refused, the bytes of a call are copied once, and the worker clears these copies.
  */
 export async function tryCalls({ Calls, answering }) {
   const posted = [];
   const calls = new Calls({ postMessage: (it) => posted.push(it), terminate: () => {} });
+  const given = new Uint8Array(16).fill(7);
+  const moved = [];
+  const copying = new Calls({ postMessage: ({ words }, buffers) => moved.push({ words, buffers }) }).functions();
+  copying.verify(given.subarray(4, 8), new DataView(given.buffer, 4, 4), { secret: given.buffer, oldSecret: "x", bound: {} });
+  given.fill(8);
+  const [text, password, { secret, oldSecret, bound }] = moved[0].words;
+  check([text, password, secret].every((it) => it.every((byte) => byte === 7)), "copies");
+  check([text, password, secret].map((it) => it.buffer.byteLength).join() === "4,4,16", "no other bytes");
+  check(moved[0].buffers.length === 3 && [text, password, secret].every((it) => moved[0].buffers.includes(it.buffer)), "moved");
+  check(oldSecret === "x" && Object.keys(bound).length === 0, "what is not copied");
+
   const { hash, terminate } = calls.functions();
   const waiting = thrown(() => hash("x", { secret: "y", salt: new Uint8Array(8) }));
   terminate();
