@@ -1,14 +1,14 @@
 // Answers logins by stored hashes that were made under a secret, within a bound, and renews these hashes.
-import { start } from "argon2-proved/worker";
+import { createPool } from "argon2-proved/pool";
 
-// (in a thread, so that nothing else waits for a hash)
-const argon2 = start();
+// (at most four hashes at once, each in a thread, while 64 more logins wait)
+const argon2 = createPool({ size: 4, maxQueued: 64 });
 // A service reads its secret from a file that is not with the hashes.
 const settings = { memory: 19456, passes: 2, lanes: 1, secret: "the secret" };
 const bound = { memory: 65536, passes: 4 };
 
 // Whether a user's stored hash accepts a password. If there is a new hash, it replaces the stored one. An Argon2Error says why a
-// stored hash is not verified.
+// stored hash is not verified, and a PoolError that too many logins wait.
 async function logIn(user, password) {
   const answer = await argon2.logIn(user.hash, password, { ...settings, bound });
   if (answer === null) return false;

@@ -3,7 +3,7 @@
 
 import { Argon2Error, MISMATCH, must, OUT_OF_MEMORY } from "./error.mjs";
 import { Instance } from "./instance.mjs";
-import { complete } from "./options.mjs";
+import { complete, whole } from "./options.mjs";
 
 export { Argon2Error };
 
@@ -261,23 +261,23 @@ function blockCount(memory, lanes) {
   return 4 * lanes * Math.floor(memory / (4 * lanes));
 }
 
-function whole(value, name) {
-  if (Number.isInteger(value) && value >= 0 && value < 2 ** 32) return value;
-  throw new RangeError(`${name} is no whole number from 0 to 4294967295`);
-}
-
 function drawSalt() {
   return crypto.getRandomValues(new Uint8Array(DRAWN_SALT));
 }
 
-/** Makes it of a module, its bytes, a response with them, or a promise of one of these. */
-export async function open(source) {
+/** The module of a module, its bytes, a response with them, or a promise of one of these. */
+export async function moduleOf(source) {
   let it = await source;
   if (it instanceof Response) {
     if (!it.ok) throw new Error(`${it.url} was not loaded: ${it.status}`);
     it = await it.arrayBuffer();
   }
-  return new Argon2(it instanceof WebAssembly.Module ? it : await WebAssembly.compile(it));
+  return it instanceof WebAssembly.Module ? it : WebAssembly.compile(it);
+}
+
+/** Makes it of the same. */
+export async function open(source) {
+  return new Argon2(await moduleOf(source));
 }
 
 // Takes the steps of a generator, and returns its result.

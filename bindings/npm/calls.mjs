@@ -27,7 +27,7 @@ export function answering(loading, post) {
   };
 }
 
-/** Clears all bytes in a value that was copied. The buffer of a view is cleared as a whole, and memory that is shared is no copy. */
+/** Clears all bytes in a copied value. The buffer of a view is cleared as a whole, and memory that is shared is no copy. */
 export function clear(value) {
   if (isBytes(value)) {
     const buffer = value.buffer ?? value;

@@ -17,3 +17,9 @@ export function complete(defaults, options) {
   }
   return { ...defaults, ...options };
 }
+
+/** A whole number, which is refused below and above these ones. */
+export function whole(value, name, least = 0, most = 4294967295) {
+  if (Number.isInteger(value) && value >= least && value <= most) return value;
+  throw new RangeError(`${name} is no whole number from ${least} to ${most}`);
+}

@@ -2,7 +2,10 @@ import type { Argon2 } from "./argon2.mjs";
 
 type Promised<F> = F extends (...words: infer W) => infer R ? (...words: W) => Promise<R> : never;
 
-export type Argon2Worker = { [K in "hash" | "verify" | "logIn" | "needsRehash" | "parse" | "raw"]: Promised<Argon2[K]> } & {
+/** The functions of an Argon2, each of which returns a promise. They get copies of bytes that are given. */
+export type Functions = { [K in "hash" | "verify" | "logIn" | "needsRehash" | "parse" | "raw"]: Promised<Argon2[K]> };
+
+export type Argon2Worker = Functions & {
   /** Ends the worker. Calls that wait are rejected. */
   terminate(): void;
 };

@@ -73,6 +73,10 @@ const TESTS = {
     check(written(program, true) === "32" && written(program, false) === "32");
   },
 
+  "a program ends though it has a worker without a call": () => {
+    check(written(`import { start } from ${WORKER}; start();`, false) === "");
+  },
+
   "a worker is ended after it has posted an answer": () => {
     check(written(LATE, false) === "the worker was terminated");
   },

@@ -1,9 +1,13 @@
 // Tries the package in a page, beside its folder argon2-proved, and posts the lines that tests/npm/check.mjs prints in node.
 
+import { Calls } from "./argon2-proved/calls.mjs";
 import * as entry from "./argon2-proved/page.mjs";
+import * as poolEntry from "./argon2-proved/page-pool.mjs";
 import { start } from "./argon2-proved/page-worker.mjs";
+import { Pool } from "./argon2-proved/pool.mjs";
 import { check } from "./checks.mjs";
 import { makeKey } from "./key.mjs";
+import { poolTests } from "./pool.mjs";
 import { KNOWN, MODULES, runTests, toHex, tryModules, tryWorker } from "./tests.mjs";
 
 const TESTS = {
@@ -71,9 +75,19 @@ async function readModule(name) {
   return new Uint8Array(await (await fetch(`./argon2-proved/${name}`)).arrayBuffer());
 }
 
+const workers = {
+  Worker,
+  setWorker: (it) => (globalThis.Worker = it),
+  // (a page does not see a worker that the browser ends, so this is an error of its script)
+  die: (worker) => worker.dispatchEvent(new ErrorEvent("error", { message: "killed" })),
+  isMissing: ({ message }) => message === "the worker did not start",
+};
+
 const lines = [];
 try {
-  const counts = await runTests(entry, await Promise.all(MODULES.map(readModule)), (line) => lines.push(line), TESTS);
+  const modules = await Promise.all(MODULES.map(readModule));
+  const pools = poolTests({ ...entry, ...poolEntry, Pool, Calls }, await WebAssembly.compile(modules[0]), workers);
+  const counts = await runTests(entry, modules, (line) => lines.push(line), { ...TESTS, ...pools });
   lines.push(`${counts.passed} passed, ${counts.failed} failed`);
 } catch (error) {
   lines.push(String(error), "0 passed, 1 failed");

@@ -371,8 +371,8 @@ export async function runTests(entry, modules, show, further) {
   return counts;
 }
 
-// Counts tests that a function tries, and shows a line for each that fails.
-async function tryAll(tests, run, show, counts) {
+/** Counts tests that a function tries, and shows a line for each that fails. */
+export async function tryAll(tests, run, show, counts) {
   for (const [name, test] of Object.entries(tests)) {
     try {
       await run(test);

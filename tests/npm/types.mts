@@ -2,6 +2,7 @@
 
 import { Argon2, Argon2Error, load, type Bound, type LogInAnswer, type LogInOptions, type TextOptions } from "argon2-proved";
 import { load as loadInline } from "argon2-proved/inline";
+import { createPool, PoolError, type Argon2Pool } from "argon2-proved/pool";
 import { start } from "argon2-proved/worker";
 
 const argon2: Argon2 = await load(fetch("argon2.wasm"));
@@ -30,9 +31,15 @@ const answers: [string, boolean, LogInAnswer | null, Uint8Array] = [
 ];
 worker.terminate();
 
+const pool: Argon2Pool = createPool({ size: 4, maxQueued: 0, idleTimeout: 1000 });
+const isCurrent: boolean = !(await pool.needsRehash(await pool.hash("password", settings)));
+const accepted: LogInAnswer | null = await pool.logIn(text, "password", logInOptions);
+const closing: Promise<void> = pool.close();
+
 try {
   argon2.parse(text);
 } catch (error) {
+  if (error instanceof PoolError && error.code === "QUEUE_FULL") console.log(error.cause, isCurrent, accepted, closing);
   if (error instanceof Argon2Error) console.log(error.code, error.number, accepts, isOld, version, tags, answers);
 }
 
@@ -46,6 +53,10 @@ argon2.logIn(text, "password", { salt });
 argon2.logIn(text, "password").hash;
 // @ts-expect-error: there is no such option
 argon2.hash("password", { parallelism: 1 });
+// @ts-expect-error: a queue has a bound
+createPool({ maxQueued: undefined });
+// @ts-expect-error: a pool has no such error
+new PoolError("OUT_OF_MEMORY");
 // @ts-expect-error: `load` returns a promise
 load().hash("password");
 // @ts-expect-error: `load` makes it

@@ -1,0 +1,11 @@
+import { Calls } from "./calls.mjs";
+
+/** The calls of a thread. While it has none, node does not wait for it. */
+export function callsOf(worker) {
+  const calls = new Calls(worker);
+  worker.on("message", (it) => calls.take(it));
+  worker.on("error", (error) => calls.end(error));
+  worker.on("exit", () => calls.end(new Error("the worker ended")));
+  worker.unref();
+  return calls;
+}
