@@ -1,7 +1,7 @@
 // Answers logins by stored hashes that were made under a secret, within a bound, and renews these hashes.
 import { createPool } from "argon2-proved/pool";
 
-// (at most four hashes at once, each in a thread, while 64 more logins wait)
+// (at most four hashes at once, each in a thread, while at most 64 more logins wait)
 const argon2 = createPool({ size: 4, maxQueued: 64 });
 // A service reads its secret from a file that is not with the hashes.
 const settings = { memory: 19456, passes: 2, lanes: 1, secret: "the secret" };

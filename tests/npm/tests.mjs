@@ -14,6 +14,8 @@ const OF_ABC = "$argon2id$v=19$m=8,t=1,p=1$c29tZXNhbHQ$LVJKYEkaeNsu5UCkG00QmN9Kv
 const OF_SECRET =
   "$argon2id$v=19$m=64,t=2,p=2,keyid=a2V5IDE,data=c29tZSBkYXRh$c29tZXNhbHQ$8Fe4gWVJpEPVFv1y5tDY+m6T9i6mEDkkKNQBGzcGzH8";
 const OF_OLD_SECRET = "$argon2id$v=19$m=64,t=2,p=2$c29tZXNhbHQ$TIwxZJX/u/uyFcujYXWbkdtyc4CJCdkl+/isYF6xVj0";
+// By Debian's command argon2 of `password` with the default costs of the npm package argon2.
+const OF_REFERENCE = "$argon2id$v=19$m=65536,t=3,p=4$c29tZXNhbHRzb21lc2FsdA$gduXp+Z6iReEolmbyHn5V8s1EtJzmEvZfYoY/Fn/AeI";
 const SMALL = { memory: 8, passes: 1 };
 // Long enough for turns.
 const LONG = { memory: 8192, passes: 8 };
@@ -101,6 +103,7 @@ const TESTS = {
       check(!argon2.needsRehash(text), text);
     }
     check(texts[0] !== texts[1]);
+    check(argon2.verify(OF_REFERENCE, "password") && !argon2.verify(OF_REFERENCE, "Password"));
   },
 
   "refusals by name": async ({ argon2, Argon2Error }) => {
