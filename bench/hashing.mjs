@@ -1,12 +1,12 @@
 // Times hashes by several modules of WebAssembly, in node and in pages.
 
-const COSTS = [
+export const COSTS = [
   { memory: 65536, passes: 3 },
   { memory: 19456, passes: 2 },
   { memory: 4096, passes: 1 },
 ];
-const [PASSWORD, SALT] = ["password", "somesaltsomesalt"].map((it) => new TextEncoder().encode(it));
-const LENGTH = 32;
+export const [PASSWORD, SALT] = ["password", "somesaltsomesalt"].map((it) => new TextEncoder().encode(it));
+export const LENGTH = 32;
 
 // What hashes by the reference's C.
 function referenceOf({ exports }) {
@@ -28,8 +28,8 @@ function referenceOf({ exports }) {
   };
 }
 
-// What hashes by a module. One that exports `malloc` is the reference's.
-async function hasherOf(bytes, load) {
+/** What hashes by a module. A module that exports `malloc` is the reference's, and needs no `load` of the package. */
+export async function hasherOf(bytes, load) {
   const module = await WebAssembly.compile(bytes);
   if (!WebAssembly.Module.exports(module).some(({ name }) => name === "malloc")) {
     const argon2 = await load(module);

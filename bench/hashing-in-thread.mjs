@@ -1,0 +1,7 @@
+// Hashes by a module of the reference's C, in a thread: takes costs, and answers the tag.
+
+import { parentPort, workerData } from "node:worker_threads";
+import { hasherOf } from "./hashing.mjs";
+
+const hash = await hasherOf(workerData);
+parentPort.on("message", (costs) => parentPort.postMessage(hash(costs)));
