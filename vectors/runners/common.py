@@ -1,0 +1,42 @@
+"""What the runners share: the cases of a file, and the lines that say what a program answers otherwise."""
+
+import json
+import os
+import sys
+
+FOLDER = os.path.join(os.path.dirname(os.path.realpath(__file__)), "..")
+NAMES = ("argon2_hash", "argon2_long_hash", "blake2b", "phc_argon2", "argon2_verify")
+
+
+def cases(name):
+    """The tests of a file, each with its group."""
+    with open(f"{FOLDER}/{name}.json", encoding="utf-8") as file:
+        return [(group, test) for group in json.load(file)["testGroups"] for test in group["tests"]]
+
+
+def run(answers):
+    """Tries functions, by the names of their files, on all cases: each takes a group and a test, and returns whether the program
+    answers as the test says, or None if the program has no such function. Prints each case that it answers otherwise, and last
+    'N passed, M failed, K skipped'. The status is 1 if one failed."""
+    passed = failed = skipped = 0
+    for name, answer in answers.items():
+        for group, test in cases(name):
+            is_right = answer(group, test)
+            passed += is_right is True
+            failed += is_right is False
+            skipped += is_right is None
+            if is_right is False:
+                print(f"{name} {test['tcId']}: {test['comment']}", flush=True)
+    print(f"{passed} passed, {failed} failed, {skipped} skipped")
+    sys.exit(1 if failed else 0)
+
+
+def has_value(test, found):
+    """Whether a value, in hexadecimal digits, is that of a test. It is None if the program refuses."""
+    wanted = next((test[it] for it in ("tag", "hash", "digest") if it in test), None)
+    return found == wanted or found is None and test["result"] == "acceptable"
+
+
+def accepts(test, found):
+    """Whether an acceptance of a text is as a test says."""
+    return found == (test["result"] != "invalid") or not found and test["result"] == "acceptable"
