@@ -1,12 +1,11 @@
 // What is tried in node and in pages.
 
-import { TAGS, TEXTS } from "./cases.mjs";
 import { check, thrown } from "./checks.mjs";
 import { LOG_IN_TESTS } from "./log-in.mjs";
+import { VECTOR_TESTS } from "./vectors.mjs";
 
 export const MODULES = ["argon2.wasm", "argon2-simd.wasm"];
 
-const BOUND = { memory: 1024, passes: 16, lanes: 64 };
 const SALT = "somesalt";
 // By an independent model: `password` and SALT with 256 KiB, two passes and one lane.
 export const KNOWN = "9dfeb910e80bad0311fee20f9c0e2b12c17987b4cac90c2ef54d5b3021c68bfe";
@@ -29,7 +28,6 @@ class Settings {
 const INHERITED = [new Settings(), Object.create({ secret: "some secret" }), 12, true, () => {}, [], new Map(), null];
 
 export const toHex = (bytes) => Array.from(bytes, (it) => it.toString(16).padStart(2, "0")).join("");
-const fromHex = (digits) => Uint8Array.from(digits.match(/../g) ?? [], (it) => parseInt(it, 16));
 
 /** The instances of modules that a function makes. */
 async function instancesOf(body) {
@@ -57,36 +55,7 @@ function isClear({ exports }) {
 }
 
 const TESTS = {
-  "200 tags of the model, at once and in turns": async ({ argon2 }) => {
-    for (const [algorithm, version, memory, passes, lanes, ...digits] of TAGS) {
-      const [password, salt, secret, data, tag] = digits.map(fromHex);
-      const options = { algorithm, version, memory, passes, lanes, length: tag.length, secret, data };
-      check(toHex(argon2.raw(password, salt, options)) === digits[4], digits);
-      check(toHex(await argon2.rawAsync(password, salt, options)) === digits[4], digits);
-    }
-    check(TAGS.length === 200);
-  },
-
-  "300 texts of the model, verified": async ({ argon2 }) => {
-    for (const [password, secret, text, wanted] of TEXTS) {
-      const verify = () => argon2.verify(text, fromHex(password), { secret: fromHex(secret), bound: BOUND });
-      check(wanted === (typeof wanted === "string" ? (await thrown(verify)).code : verify()), text, wanted);
-    }
-    check(TEXTS.length === 300);
-  },
-
-  "the same texts, read and made": ({ argon2 }) => {
-    const accepted = TEXTS.filter(([, , text, wanted]) => wanted === true && text.includes("$v="));
-    for (const [digits, secret, text] of accepted) {
-      const password = fromHex(digits);
-      const { hash, salt, ...shown } = argon2.parse(text);
-      const options = { ...shown, length: hash.length, secret: fromHex(secret) };
-      check(argon2.hash(password, { ...options, salt }) === text, text);
-      check(!argon2.needsRehash(text, options) && argon2.needsRehash(text, { ...options, passes: shown.passes + 1 }), text);
-      check(argon2.verify(text, password, { secret: "a new secret", oldSecret: options.secret, bound: BOUND }), text);
-    }
-    check(accepted.length > 100, accepted.length);
-  },
+  ...VECTOR_TESTS,
 
   "strings, secrets, and drawn salts": ({ argon2 }) => {
     const secrets = { secret: "some secret", oldSecret: "old secret" };
