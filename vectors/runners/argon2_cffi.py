@@ -2,13 +2,12 @@
 """Tries argon2-cffi on the tags and the stored texts: python3 argon2_cffi.py. It needs Debian's python3-argon2."""
 
 import json
-import os
 from collections import Counter
+from pathlib import Path
 
 from argon2.exceptions import VerificationError
 from argon2.low_level import Type, core, ffi, verify_secret
 
-FOLDER = os.path.join(os.path.dirname(os.path.realpath(__file__)), "..")
 TYPES = {"argon2d": Type.D, "argon2i": Type.I, "argon2id": Type.ID}
 
 
@@ -24,25 +23,24 @@ def tag(group, test):
     return ffi.buffer(out, test["length"])[:].hex() if core(context, TYPES[group["algorithm"]].value) == 0 else None
 
 
-def accepts(group, test):
-    kind = TYPES.get(test["text"][1:].split("$")[0], Type.ID)
+def verified(test):
     try:
-        return verify_secret(test["text"].encode(), bytes.fromhex(test["password"]), kind)
+        kind = TYPES.get(test["text"][1:].split("$")[0], Type.ID)
+        return verify_secret(test["text"].encode(), bytes.fromhex(test["password"]), kind) and "accepted"
     except VerificationError:
-        return False
+        return None
 
 
 counts = Counter()
-for name, answer, refused in (("argon2_hash", tag, None), ("argon2_verify", accepts, False)):
-    with open(f"{FOLDER}/{name}.json", encoding="utf-8") as file:
-        cases = [(group, test) for group in json.load(file)["testGroups"] for test in group["tests"]]
-    for group, test in cases:
-        if "text" in test and test["secret"]:
-            counts["skipped"] += 1
-            continue
-        found, wanted = answer(group, test), test.get("tag", test["result"] != "invalid" if "text" in test else None)
-        is_right = found == wanted or (test["result"], found) == ("acceptable", refused)
-        counts["passed" if is_right else "failed"] += 1
-        if not is_right:
-            print(f"{name} {test['tcId']}: {found}")
+for file in ("argon2_hash", "argon2_verify"):
+    groups = json.loads((Path(__file__).parent.parent / f"{file}.json").read_text())["testGroups"]
+    for group, test in ((group, test) for group in groups for test in group["tests"]):
+        if "text" in test:
+            found, wanted = verified(test), "accepted" if test["result"] != "invalid" else None
+        else:
+            found, wanted = tag(group, test), test.get("tag")
+        is_right = found == wanted or test["result"] == "acceptable" and found is None
+        outcome = "skipped" if "text" in test and test["secret"] else "passed" if is_right else "failed"
+        counts[outcome] += 1
+        print(f"{file} {test['tcId']}: {found}\n" * (outcome == "failed"), end="")
 print(f"{counts['passed']} passed, {counts['failed']} failed, {counts['skipped']} skipped")
