@@ -92,7 +92,7 @@ context_with settings secret = record {
   associated = settings.parameters.associated;
 }
 
--- what its hashes depend on beside the password, the salt and the output's length
+-- what its hashes depend on, besides the password, the salt and the output's length
 abbrev pub context_of : Argon2 → Context
 context_of argon2 = context_with (settings_of argon2) (secret_of argon2)
 

@@ -10,8 +10,8 @@ use Rattle.argon2_base.specs.LongHash.{long_hash}
 
 -- ---- 3.1. Inputs
 
--- The inputs but for the password P, the salt S and the length T of the tag, which stand beside them: r is a pass, l or i a lane,
--- j a column, sl a slice.
+-- The inputs except for the password P, the salt S and the length T of the tag, which are given beside them. In the definitions
+-- below r is a pass, l or i a lane, j a column, sl a slice.
 pub record Context : Type 0 where
   pub algorithm : ℕ  -- y: 0 is Argon2d, 1 is Argon2i, 2 is Argon2id
   pub version : ℕ  -- v: 19 (0x13), or 16 (0x10) of the older version

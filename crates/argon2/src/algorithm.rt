@@ -19,7 +19,7 @@ pub enum Algorithm {
     /// References depend on the password, which leaves the least room for tradeoffs of time
     /// against memory, and leaks through side channels.
     Argon2d = 0,
-    /// References depend on positions alone, so they show nothing of the password.
+    /// References depend only on positions, so they show nothing of the password.
     Argon2i = 1,
     /// Argon2i in the first half of the first pass, and Argon2d from then on.
     #[default]

@@ -68,7 +68,7 @@ pub fn segments_apart()
         ≡ tag_of context password salt n }
 {}
 
-/// If references do not depend on the blocks, they depend on the algorithm and the costs alone.
+/// If references do not depend on the blocks, they depend only on the algorithm and the costs.
 pub fn independent_positions()
     ensures argon2i { (one other : Context) → IsValid one → AreAlike one other → one.algorithm ≡ 1
         → (first second : FirstColumns) (pass lane column : ℕ)

@@ -18,7 +18,7 @@ pub use stored::{Settings, Stored};
 
 /// Hashes passwords.
 pub trait PasswordHasher<H> {
-    // What hashing a password with a salt may return, error by error. Most callers need `accepts` alone.
+    // What hashing a password with a salt may return, error by error. Most callers need only `accepts`.
     ghost hash_gives: { Self → List ℕ → List ℕ → Outcome H Error → Type 0 };
 
     // The hash is accepted with the password.
@@ -93,7 +93,7 @@ pub trait CustomizedPasswordHasher<H> {
 
 /// Verifies passwords.
 pub trait PasswordVerifier<H> {
-    // What verifying a password against a hash may return, error by error. Most callers need `accepts` alone.
+    // What verifying a password against a hash may return, error by error. Most callers need only `accepts`.
     ghost verify_gives: { Self → List ℕ → H → Outcome (Unit {0}) Error → Type 0 };
 
     // The hash accepts the password.

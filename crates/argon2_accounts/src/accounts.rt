@@ -127,7 +127,7 @@ impl<'key, S: Store> Accounts<'key, S> {
         done.map_err(AccountError::from)
     }
 
-    /// Gives a name that is there a text of a new password, whatever text it has. A name that is locked is
+    /// Gives a name that has a text a text of a new password, whatever text it has. A name that is locked is
     /// not locked any more. 16 bytes are drawn from `rng`, whatever the call returns.
     ///
     /// # Errors

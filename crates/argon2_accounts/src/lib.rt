@@ -15,7 +15,7 @@
 //! ```
 //!
 //! These are bodies of functions of `argon2_example_service`. They are over any disk, which keeps a proof short:
-//! `main` alone knows which store it has. `CALLING.md` shows more of that program.
+//! only `main` knows which store it has. `CALLING.md` shows more of that program.
 //!
 //! A call that hashes keeps the file locked meanwhile. Services on several machines, and those that
 //! share the file with others, ask the [`Policy`](argon2_policy::Policy) about a text themselves, and

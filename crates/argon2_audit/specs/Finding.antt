@@ -105,7 +105,7 @@ stored_in field line = unwrap_or (option_map without_prefix (field_in field (tri
 
 -- ---- what a stored text shows
 
--- the settings of an entry, the salt and the hash's length if they are there
+-- the settings of an entry, and the salt and the hash's length if the entry has them
 abbrev pub entry_value : Entry → SettingsValue × Option (List ℕ) × Option ℕ
 entry_value entry = (settings_value entry.settings, entry.salt, entry.hash_len)
 

@@ -63,7 +63,7 @@ IsAudit options input old new clean = (tally : Tally) × IfSome input (λ bytes.
 
 -- ---- what calls write of it
 
--- tokens are added after what is there
+-- tokens are added after those that were written
 pub record Adds (old new : Written) (added : List Token) : Type 0 where
   pub before : new.before ≡ old.before
   pub tokens : new.tokens ≡ old.tokens ++ added

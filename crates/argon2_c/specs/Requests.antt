@@ -7,7 +7,7 @@ use Rattle.argon2.specs.Settings.{max_lanes}
 use Rattle.argon2_c.specs.declared.code.TheConstants.{OK, OUTPUT_PTR_NULL, OUTPUT_TOO_SHORT, OUTPUT_TOO_LONG, PWD_TOO_LONG, SALT_TOO_SHORT, SALT_TOO_LONG, AD_TOO_LONG, SECRET_TOO_LONG, TIME_TOO_SMALL, MEMORY_TOO_LITTLE, LANES_TOO_FEW, LANES_TOO_MANY, PWD_PTR_MISMATCH, SALT_PTR_MISMATCH, SECRET_PTR_MISMATCH, AD_PTR_MISMATCH, FREE_MEMORY_CBK_NULL, ALLOCATE_MEMORY_CBK_NULL, INCORRECT_TYPE, THREADS_TOO_FEW, THREADS_TOO_MANY}
 use Rattle.argon2_c.specs.declared.request.Request.{Request}
 
--- what the hash depends on beside the password, the salt and the output's length
+-- what the hash depends on, besides the password, the salt and the output's length
 abbrev pub request_context : Request → List ℕ → List ℕ → Context
 request_context request secret associated = record {
   algorithm = request.algorithm;

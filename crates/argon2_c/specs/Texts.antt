@@ -7,7 +7,7 @@ use Rattle.argon2_c.specs.declared.code.TheConstants.{ENCODING_FAIL, OK}
 use Rattle.argon2_c.specs.declared.decode.Shown.{Shown}
 use Rattle.argon2_c.specs.declared.request.Request.{Request}
 
--- what a text says beside the name
+-- what a text says, besides the name
 pub record Said : Type 0 where
   pub version : Option ℕ
   pub m_cost : ℕ

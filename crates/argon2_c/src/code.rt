@@ -55,7 +55,7 @@ pub const DECODING_FAIL: i32 = -32;
 /// The password does not have this hash.
 pub const VERIFY_MISMATCH: i32 = -35;
 
-// Codes of `argon2_phc.h` alone.
+// Codes that only `argon2_phc.h` has.
 
 /// The key identifier is longer than 8 bytes.
 pub const KEYID_TOO_LONG: i32 = -69;

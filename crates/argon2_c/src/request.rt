@@ -8,7 +8,7 @@ use crate::code::*;
 use crate::hash::variant;
 use argon2::{MAX_AD_LEN, MAX_PWD_LEN, MAX_SALT_LEN, MAX_SECRET_LEN, MIN_SALT_LEN, Params};
 
-/// What a C caller asks for beside its bytes.
+/// What a C caller asks for, besides its bytes.
 #[repr(C)]
 #[derive(Clone, Copy)]
 pub struct Request {

@@ -11,7 +11,7 @@ use argon2_io::Failure;
 use std::alloc::AllocError;
 use std::io::Write;
 
-// How many numbers of passes are tried beside the least.
+// How many numbers of passes are tried, besides the least.
 const TRIALS: u32 = 4;
 
 // How often costs are measured at the most.

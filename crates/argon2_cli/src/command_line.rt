@@ -34,7 +34,7 @@ pub struct CommandLine<'a> {
     pub arguments: &'a [Argument<'a>],
 }
 
-/// An option, or words that stand alone.
+/// An option, or words without one.
 #[derive(Clone, Copy)]
 pub struct Argument<'a> {
     /// The name.
@@ -47,7 +47,7 @@ pub struct Argument<'a> {
     pub default: Option<&'a str>,
     /// What its value is.
     pub kind: Kind,
-    /// The option that may not stand beside it.
+    /// The option that excludes it.
     pub excluded: Option<&'a str>,
 }
 

@@ -59,7 +59,7 @@ pub fn has_password<R: Rng, S: Store>(
     }
 }
 
-/// Gives a new name a password, and copies the log into the file, so that the file alone has it.
+/// Gives a new name a password, and copies the log into the file, so that the file has it without the log.
 ///
 /// # Errors
 /// - those of [`Accounts::register`]: the names are as before, unless the disk failed during a commit.

@@ -1,4 +1,4 @@
-//! Uses of `argon2` as callers write them, each proved from its public contracts and lemmas alone.
+//! Uses of `argon2` as callers write them, each proved only from its public contracts and lemmas.
 //!
 //! - [`passwords`]: texts of passwords, stored and verified.
 //! - [`login`]: names with passwords, whose old texts are renewed.

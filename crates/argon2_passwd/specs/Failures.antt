@@ -87,7 +87,7 @@ abbrev pub open_failure : OpenError → Failure
 open_failure no.OutOfMemory = Memory
 open_failure error = Unopened error
 
--- ---- refusals that do not tell whether the name is there
+-- ---- refusals that do not tell whether the file has the name
 
 -- the name is unknown, or its text refuses the password or is locked
 abbrev pub is_denial : Failure → Bool

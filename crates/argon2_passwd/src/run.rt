@@ -105,7 +105,7 @@ pub fn fail<E: Write>(errors: &mut E, command: &Command<'_>, failure: &Failure) 
 /// login that is refused has the same line for an unknown name, a locked one and a wrong password.
 ///
 /// # Errors
-/// A write fails. Then a prefix of the line is there.
+/// A write fails. Then a prefix of the line is written.
 pub fn say_failure<E: Write>(
     errors: &mut E,
     command: &Command<'_>,
@@ -138,7 +138,7 @@ fn write_passed<E: Write>(errors: &mut E, lines: &[(usize, Flaw)]) -> io::Result
     Ok(())
 }
 
-// Whether the failure is not to tell if the name is there.
+// Whether the failure is not to tell if the file has the name.
 fn is_hidden(command: &Command<'_>, failure: &Failure) -> bool
     ensures { command.now.options.explain ≡ false → IsDenialOf command.now.action failure.now → IsTrue result }
 {

@@ -186,7 +186,7 @@ pub text_or : (o : Option (Bor (List ℕ))) (v : Phc) (other r : Bor (List ℕ))
 text_or None v other r is says = absurd says
 text_or (Some text) v other r is says = rw is refl
 
--- what is stored says this value alone, which refuses the password
+-- what is stored says only this value, which refuses the password
 pub not_admitted : {X : Type 0} (policy : PolicyValue) (password : List ℕ) (stored : Option (List ℕ)) (v : Phc)
     (r : Result X Denial)
     → ((w : Phc) → SaysValue stored w → v ≡ w) → IfErr r (IsDenial policy password v)
@@ -233,7 +233,7 @@ module _ (policy : PolicyValue) (password : List ℕ) (v : Phc) (stored : Stored
   found_by_old secret same first second =
       inr (wrong policy.target.secret password v first, rw same (exact secret password v (Ok tt) second))
 
-  -- nor does the old secret
+  -- the old secret does not accept it either
   pub denied_by_old : (secret : List ℕ) (e : Error) → policy.old_secret ≡ Some secret → AsksWithin policy.bound v
       → IsVerifyAnswer policy.target.secret password v (Err PasswordInvalid) → IsVerifyAnswer secret password v (Err e)
       → IsDenial policy password v (Refused e)

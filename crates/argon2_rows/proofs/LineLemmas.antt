@@ -60,7 +60,7 @@ begin_lines view first now names out shape is rows texts =
     let named = each_name IsUtf8 (entries names) (λ k v found. (texts k v (get-entries names k ∙ found)).0) in
     (entries names, grind (arith, from_key-none), named, λ end how lines. lines, λ end cut. cut)
 
--- so far a prefix is there
+-- so far a prefix is written
 pub cut_there : (view : View) (now : Shown) (names : Texts) (old mid : Option (List ℕ)) → IsWriting view now names old mid
     → AreCut view names old mid
 cut_there view now names old mid (left, at, named, rest, cuts) =

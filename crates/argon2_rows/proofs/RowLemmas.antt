@@ -109,7 +109,7 @@ long_if_huge e huge = grind arith
 
 -- ---- a seek by a name finds its row, or the name has none
 
--- over the name's column alone, a row compares with a key as its name does
+-- over only the name's column, a row compares with a key as its name does
 row_by_name : (e : List ℕ × List ℕ) (k : List ℕ) → prefix_cmp plain (row_of e) (Text k ∷ []) ≡ order e.0 k
 row_by_name e k = grind (arith, prefix_cmp-one (Text e.0) (Text e.1 ∷ []) (Text k), value_cmp-Text)
 

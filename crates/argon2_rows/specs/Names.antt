@@ -28,12 +28,12 @@ text_in stored = stored.text.now
 abbrev pub entry_of : Bor (List ℕ) × StoredText → List ℕ × List ℕ
 entry_of e = (e.0.now, text_in e.1)
 
--- none of the names is there, and each is added
+-- none of the names has a text, and each is added
 abbrev pub AddsAll : Texts → List (List ℕ × List ℕ) → Texts → Type 0
 AddsAll before [] after = after ≡ before
 AddsAll before (e ∷ es) after = (get before e.0 ≡ None) × AddsAll (changed before e.0 (Some e.1)) es after
 
--- those before this one can be added, and this one is there then
+-- the names before this one can be added, and this one then has a text
 abbrev pub IsFirstTaken : Texts → List (List ℕ × List ℕ) → ℕ → Type 0
 IsFirstTaken before es k = (mid : Texts) × AddsAll before (take k es) mid × (k < length es)
     × IsSome (get mid (slice_index_or es k ([], [])).0)

@@ -23,11 +23,11 @@ account = record {
       ∷ Text (codes "CREATE TABLE account (name TEXT NOT NULL PRIMARY KEY, phc TEXT NOT NULL) WITHOUT ROWID") ∷ [];
 }
 
--- what a database lists that has the table of the accounts alone
+-- what a database lists that has only the table of the accounts
 unfoldable pub catalog : List Row
 catalog = listed_from 0 (account ∷ [])
 
--- the database has that table alone, with the rows of these names
+-- the database has only that table, with the rows of these names
 abbrev pub HoldsTable : Trees → Texts → Type 0
 HoldsTable db names = (db 0 ≡ rows_of names) × (db catalog_tree ≡ catalog)
 
@@ -158,7 +158,7 @@ module _ {S : Type 0} (g : Ghosts S) where
   AddsNames old new before es done = (after : Texts) × (IsHonest new → (after ≡ before) ⊎ AddsAll before es after)
       × OnOk done (IsHonest new → AddsAll before es after) × Changes old new before after (Any IsLong es) done
 
-  -- The same, or the index of the first name that is there, which changes nothing.
+  -- The same, or the index of the first name that has a text already; then nothing changes.
   abbrev pub WritesAll : S → S → Texts → List (List ℕ × List ℕ) → Result (Unit {0}) AddError → Type 0
   WritesAll old new before es (Err (Taken k)) =
       HasRows new before × (IsHonest new → IsFirstTaken before es k) × StaysQuiet old new

@@ -43,7 +43,7 @@ rows_stable a b h =
 
 -- ---- the size of a page
 
--- an image is a sound file by one size of a page alone
+-- an image is a sound file by only one size of a page
 once : (img : Image) (a b : ℕ) (p q : PageMap) → Recovers a img p → Recovers b img q → 504 ≤ a → 504 ≤ b → IsSoundFile a p
     → IsSoundFile b q → (a ≡ b) × (p ≡ q)
 once img a b p q found also large big sound whole =
@@ -147,7 +147,7 @@ begun size schema img pages large recs file list (inr bare) =
     let (sized, one) = once img size 4096 pages bare.0 recs bare.1 large (omega arith) file.sound bare.2 in
     no_table size schema pages list file (subst₂ (λ n p. rows_at n (in_use n p) Table 1 ≡ []) (sym sized) (sym one) bare.3)
 
--- an open finds these rows alone, and the files begin as a database does unless these are none
+-- an open finds only these rows, and the files begin as a database does unless there are no rows
 abbrev IsNear : List Row → Image → Type 0
 IsNear first img = ((rows : List Row) → IsFoundIn 4096 img rows → rows ≡ first)
     × (¬ (first ≡ []) → (q : PageMap) → raw.Recovers 4096 img q → AreWhole 4096 q → ¬ ¬ (begin q ≡ 83))

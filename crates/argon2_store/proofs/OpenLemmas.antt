@@ -170,7 +170,7 @@ module _ {D : Type 0} {g : Ghosts D} where
           (stands_for _ _ _ left within ((stands sized (clean_if_left end.pool left left_so)).1 left left_so)),
     )
 
--- Whatever a crash leaves of a store that lists the table alone is a table with the rows that it recovers to.
+-- Whatever a crash leaves of a store that lists only the table is a table with the rows that it recovers to.
 pub left_table : {D : Type 0} {g : Ghosts D} (it : FileStore D g) → ((db : Trees) → recovers it db → db catalog_tree ≡ catalog)
     → (left : Image) → (state it).may_leave left → ∥ ((db : Trees) × recovers it db × IsTableOf left (db 0)) ∥₁
 unfolding catalog

@@ -38,7 +38,7 @@ name_of (removing name) = name
 name_of (locking name) = name
 name_of (unlocking name) = name
 
--- the text after `!`, where it stays if it is there already
+-- the text after `!`; a text that begins with `!` stays as it is
 abbrev pub with_lock : List ℕ → List ℕ
 with_lock text = if is_locked text then text else 33 ∷ text
 

@@ -40,7 +40,7 @@ IsTableRow row = column row 1 ∷ column row 2 ∷ column row 3 ∷ column row 5
 abbrev pub MayHoldAccounts : List Row → Type 0
 MayHoldAccounts rows = (length rows ≤ 1) × All IsTableRow rows
 
--- the files recover to a database of that table alone, which has these rows, or there was no table and these are none
+-- the files recover to a database of only that table, which has these rows, or there was no table and there are no rows
 abbrev pub IsFoundIn : ℕ → Image → List Row → Type 0
 IsFoundIn size image rows =
     ((pages : PageMap) × Recovers size image pages × ∥ IsFile size (account ∷ []) pages ∥₁
@@ -85,7 +85,7 @@ HasOtherFormat image n = (n ≢ 0) × ((pages : PageMap) × Recovers 4096 image 
 abbrev pub IsDamaged : List ℕ → Type 0
 IsDamaged log = (56 ≤ length log) × (slice_index log 0 ≡ 0x37) × (¬ IsSigned (header log))
 
--- the files recover to a database of that table alone, whatever the size of a page, which has these rows
+-- the files recover to a database of only that table, whatever the size of a page, which has these rows
 abbrev pub IsTableOf : Image → List Row → Type 0
 IsTableOf image rows = (size : ℕ) × (schema : List Wanted) × (pages : PageMap) × IsPageSize (stored_size size)
     × Recovers size image pages × IsFile size schema pages × (listed_from 0 schema ≡ listed_from 0 (account ∷ []))

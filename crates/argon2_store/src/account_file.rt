@@ -261,7 +261,7 @@ impl<T: Start> AccountsAt<T> {
     /// type opens one file, and only `main` names the type, such as `sqlite_std_file::Wary`.
     ///
     /// The file stays open, and locked against other processes, until the value is dropped. A new file and its log are
-    /// for their owner alone: their mode is 0600. The log gets no right that the file has not. If the file is removed while
+    /// only for their owner: their mode is 0600. The log gets no right that the file has not. If the file is removed while
     /// it is opened, that is an error. A new file, one that was empty, and one whose making was cut off is a database with
     /// no table before its log is begun, so that `sqlite3` opens it after a kill. No clause says so.
     ///
@@ -409,7 +409,7 @@ impl<D: Disk> AccountFile<FileStore<D>> {
     ghost use Rattle.sqlite_store.specs.FileStore.{HasSpilled, log_frames};
     ghost use Rattle.argon2_store.specs.AccountFile.{Reads, database_of};
 
-    /// Copies the log into the file, so that the file alone has all accounts, and empties the log, unless
+    /// Copies the log into the file, so that the file has all accounts without the log, and empties the log, unless
     /// frames of an unfinished change are in it. To drop the value without it loses nothing: the next open
     /// reads the log.
     ///

@@ -166,7 +166,7 @@ pub enum OpenError {
     Busy,
     /// SQLite was stopped in the middle of a change, and has to open the file first.
     HotJournal,
-    /// A log or a journal lies beside the path, and no file is there, or an empty one.
+    /// A log or a journal lies beside the path, but there is no file, or an empty one.
     LogWithoutFile,
     /// The log beside the file belongs to another user, who may not write the file.
     LogOfAnother,

@@ -94,7 +94,7 @@ fn may_hold_accounts(rows: &[Row]) -> bool
     rows.len() <= LISTED && rows.iter().all(is_table_row)
 }
 
-// Opens a database that is there. It is checked whole before, unless it is known to be sound.
+// Opens a database that exists. It is checked whole before, unless it is known to be sound.
 fn open_there<D: Disk>(
     unopened: Unopened<D>,
     is_known: bool,
@@ -245,7 +245,7 @@ fn small_bytes<'page>(file: &File, page: &'page mut [u8; PAGE]) -> io::Result<Op
     Ok(Some(held))
 }
 
-// Makes a file for its owner alone, or opens a small one. `None` is anything else that has the name.
+// Makes a file only for its owner, or opens a small one. `None` is anything else that has the name.
 fn small_file(rt: &HostRuntime, path: &str) -> io::Result<Option<File>> {
     let mut made = OpenOptions::new();
     made.read(true).write(true).create_new(true).mode(0o600);
@@ -286,7 +286,7 @@ fn check_alone(rt: &HostRuntime, path: &str) -> Result<(), OpenError> {
     Ok(())
 }
 
-// Writes a database with no table into a file, for its owner alone. It has one page, which is written whole before there is a
+// Writes a database with no table into a file, only for its owner. It has one page, which is written whole before there is a
 // log, so that sqlite3 opens what a kill leaves. A failure to write it leaves the file empty. `_held` is what the file held.
 fn write_first_page(file: &mut File, _held: &[u8]) -> io::Result<()>
     requires { IsUnmade _held.now }
@@ -391,8 +391,8 @@ fn check_begun(rt: &HostRuntime, file: &File, path: &str) -> Result<(), OpenErro
     }
 }
 
-// Makes what the kit's open left of a file that was removed meanwhile its owner's alone, and removes the empty log. The kit still
-// locks the file, after which a log is opened, so no other process has this one.
+// Gives only the owner access to what the kit's open left of a file that was removed meanwhile, and removes the empty log. The
+// kit still locks the file, after which a log is opened, so no other process has this one.
 fn narrow(rt: &HostRuntime, path: &str) -> Result<(), OpenError> {
     let file = open_regular(rt, path)?;
     let log = format!(in rt.alloc(); "{path}-wal")?;

@@ -1,4 +1,4 @@
--- A lane sees what its own turns in a slice alone make, so all schedules of a slice give the same blocks.
+-- A lane sees only what its own turns in a slice make, so all schedules of a slice give the same blocks.
 use Rattle.argon2.proofs.Imports.{◌≡◌, ℕ, zero, suc, ◌+◌, ◌-◌, ◌*◌, ◌/◌, ◌%◌, ◌<◌, ◌≤◌, ◌≢◌, ◌⊎◌, inl, inr, List, [], ◌∷◌, ◌++◌, length, refl, sym, ◌∙◌, subst, arith}
 use Rattle.argon2.proofs.Imports.{slice_index_or, slice_set, ◌==◌, if◌then◌else◌, mul-le-mul_right, div-eq_of_lt-le, mod-lt, AllByRecursion, ext_get_or, get_or-set_other, get_or-set_same}
 use Rattle.argon2.proofs.Imports.{length-set, sum_by-cons, sum_by-append, div_below, same_from_place, cases_eq, nat_tests, Context, block_count, lane_length, segment_length}
@@ -109,12 +109,12 @@ step_of_own ctx sizes pass slice lane d memory memory' st here h =
     (λ r l c reads. h.same l c reads.in_lanes reads.in_columns (rw e at reads.apart)) in
     grind (arith, length-set memory at, length-set memory' at, get_or-set_same {A = List ℕ}, get_or-set_other {A = List ℕ})
 
--- the last n turns of a lane alone
+-- only the last n turns of a lane
 alone : Context → ℕ → ℕ → ℕ → ℕ → Memory → Memory
 alone ctx pass slice lane zero memory = memory
 alone ctx pass slice lane (suc n) memory = alone ctx pass slice lane n (step ctx memory pass lane (turn_column ctx slice n))
 
--- a lane sees what its own turns alone make
+-- a lane sees only what its own turns make
 run_alone : (ctx : Context) → HasSizes ctx → (pass slice lane : ℕ) → slice < 4 → (schedule : List ℕ)
     → MayRun ctx pass slice schedule
     → (memory memory' : Memory) → SeenAlike ctx slice lane memory memory'

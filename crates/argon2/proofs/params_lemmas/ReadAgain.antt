@@ -6,7 +6,7 @@ use Rattle.argon2.proofs.Imports.{number_of, strict_base64, parameter_items, par
 pub valid_without : (m t p : ℕ) (o : Option ℕ) → IsNone (first_fault m t p o) → first_fault m t p None ≡ None
 valid_without m t p o valid = grind (arith, nat_tests)
 
--- a cost, and bytes that are there, are read as they were printed
+-- a cost, and bytes that the list has, are read as they were printed
 cost : (n : ℕ) → n < 2 ^ 32 → number_of (decimal n) ≡ Some n
 cost n h = number_again (decimal n) n h refl
 

@@ -1,4 +1,4 @@
--- The blocks satisfy the recurrence, and they alone do.
+-- The blocks satisfy the recurrence, and no other blocks do.
 use Rattle.argon2.proofs.Imports.{◌≡◌, ℕ, zero, suc, ◌+◌, ◌*◌, ◌/◌, ◌%◌, ◌<◌, ◌≤◌, inl, inr, List, [], map, length, refl, sym, ap, ◌∙◌, arith, slice_index_or, range_with_len}
 use Rattle.argon2.proofs.Imports.{get_or_append_left, length_push, get_or_push, get_or-map-range_with_len, div-mul-add, mod-mul-add, cases_lt, nat_tests, Blocks, Context}
 use Rattle.argon2.proofs.Imports.{FirstColumns, block_of, history, in_history, lane_length, made_block, rule, HasSizes, IsStep, IsRecurrence}
@@ -34,7 +34,7 @@ in_history_is ctx first n r l c h =
     ap (λ (column : List (List ℕ)). slice_index_or column l []) (history_stays ctx first n (moment ctx r c) h)
 
 module _ (ctx : Context) (sizes : HasSizes ctx) (first : FirstColumns) where
-  -- a rule reads earlier moments alone
+  -- a rule reads only earlier moments
   rule_cong : (pass lane column : ℕ) → lane < ctx.p_cost → column < lane_length ctx → (f g : Blocks)
       → ((r l c : ℕ) → l < ctx.p_cost → c < lane_length ctx → moment ctx r c < moment ctx pass column → f r l c ≡ g r l c)
       → rule ctx first f pass lane column ≡ rule ctx first g pass lane column

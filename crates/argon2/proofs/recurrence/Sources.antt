@@ -53,7 +53,7 @@ module _ (ctx : Context) (sizes : HasSizes ctx) (lane column other : ℕ) (in_la
       (λ e. All-columns (IsSource pass) pass _ _ (λ c low high. let b = bounds in let own = eqb-true other lane e in grind arith))
       (λ _. All-nil (IsSource pass))))
 
--- ---- each block is made of its sources alone
+-- ---- each block is made only of its sources
 
 -- the lane referred to is one of the lanes, and in the first slice of all the block's own
 lane_referred : (ctx : Context) → HasSizes ctx → (pass lane column w : ℕ) → lane < ctx.p_cost

@@ -1,4 +1,4 @@
-//! What a hash depends on beside the password and the salt.
+//! What a hash depends on, besides the password and the salt.
 
 ghost use Rattle.std.specs.Prelude.{◌≡◌, ◌+◌, ◌*◌, ◌^◌, ◌<◌, ◌≤◌, ◌&&◌, ◌==◌, IsNone, None, length, nat_lt};
 ghost use Rattle.argon2.specs.Settings.{algorithm_number, first_fault, version_number};

@@ -1,4 +1,4 @@
--- The equalities of lists of parameters and of what PHC texts say: each value equals itself alone.
+-- The equalities of lists of parameters and of what PHC texts say: each value equals only itself.
 use Rattle.argon2_base.proofs.Imports.{◌≡◌, Bool, ◌&&◌, List, Option, arith, pointwise_decides, bytes_eq, Decides-and, bytes_eq-Decides, Pair, Phc, pairs_eq, phc_eq}
 use Rattle.std.specs.Bool.{Decides}
 use Rattle.std.specs.Option.{option_eq}

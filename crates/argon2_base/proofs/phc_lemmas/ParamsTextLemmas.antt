@@ -80,7 +80,7 @@ params_text-more (q ∷ r ∷ ps) p =
     rw (with_item_some _ p (text_long q (r ∷ ps)), params_text-more (r ∷ ps) p, with_item_some _ p (text_long r ps))
     (sym (append_assoc (item q) (44 ∷ params_text (r ∷ ps)) (44 ∷ item p)))
 
--- whether a name is there
+-- whether a list has a name
 value_of-more : (n : List ℕ) (ps : List Pair) (p : Pair)
     → is_none (value_of n (ps ++ p ∷ [])) ≡ (is_none (value_of n ps) && not (bytes_eq p.0 n))
 value_of-more n [] p = grind arith

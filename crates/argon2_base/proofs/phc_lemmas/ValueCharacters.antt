@@ -6,7 +6,7 @@ use Rattle.argon2_base.proofs.Imports.{decimal_by_steps, list_all, decimal, enco
 digit_char : (n : ℕ) → n < 10 → is_value_char (48 + n) ≡ true
 digit_char n h = grind (arith, nat_tests)
 
--- a decimal has characters of values alone
+-- a decimal has only characters of values
 pub decimal_chars : (n : ℕ) → n < 2 ^ 64 → list_all is_value_char (decimal n) ≡ true
 decimal_chars n small =
     decimal_by_steps (λ n ds. list_all is_value_char ds ≡ true) (λ n h. grind (arith, digit_char))
@@ -16,7 +16,7 @@ decimal_chars n small =
 list_all_get : (p : ℕ → Bool) (t : List ℕ) (i : ℕ) → list_all p t ≡ true → i < length t → p (slice_index_or t i 0) ≡ true
 list_all_get p t i h lt = let fails = list_all_at p t i 0 lt in grind arith
 
--- an encoding has characters of its alphabet alone
+-- an encoding has only characters of its alphabet
 encoded_chars : (p : ℕ → Bool) (t : List ℕ) (m : List ℕ) → ((i : ℕ) → i < 64 → p (slice_index_or t i 0) ≡ true) → IsBytes m
     → list_all p (encode_symbols t m) ≡ true
 unfolding encode_symbols

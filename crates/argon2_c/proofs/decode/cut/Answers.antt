@@ -6,7 +6,7 @@ use Rattle.argon2_base.proofs.phc_lemmas.Characters.{lacks_by}
 use Rattle.argon2_base.proofs.phc_lemmas.Separators.{Lacks_at}
 use Rattle.argon2_c.proofs.decode.cut.Goals as goal
 
--- an answer that is there
+-- an answer, if there is one
 is_some_and : {A : Type 0} (P : A → Type 0) (r : Option A) → MatchOption r ⊥ P → IsSomeAnd r P
 is_some_and P None h = h
 is_some_and P (Some x) h = h

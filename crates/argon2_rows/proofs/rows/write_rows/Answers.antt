@@ -42,7 +42,7 @@ returns-in-None-clause-reads g c names texts sees =
     (rw c.if-not-branch.false at (c.in_ok-next.ensures.ok clean)) c.write_line.result c.write_line.ensures) in
     search arith
 
--- after an error of the store a prefix is there
+-- after an error of the store a prefix is written
 
 pub returns-in_err-seek-clause-shows : goal.returns-in_err-seek-clause-shows
 returns-in_err-seek-clause-shows g c names texts sees clean =
