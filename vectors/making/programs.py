@@ -126,6 +126,48 @@ def x_crypto():
     return answers
 
 
+class Parameter(ctypes.Structure):
+    """The `OSSL_PARAM` of OpenSSL."""
+
+    _fields_ = [
+        ("key", ctypes.c_char_p),
+        ("data_type", ctypes.c_uint),
+        ("data", ctypes.c_char_p),
+        ("data_size", ctypes.c_size_t),
+        ("return_size", ctypes.c_size_t),
+    ]
+
+
+def openssl():
+    """OpenSSL from 3.2 on, as in Debian's package libssl3t64. It takes a salt from 8 bytes on."""
+    library = ctypes.CDLL("libcrypto.so.3")
+    if not hasattr(library, "EVP_KDF_fetch"):
+        raise OSError("this OpenSSL has no functions of that kind")
+    library.EVP_KDF_fetch.restype = library.EVP_KDF_CTX_new.restype = ctypes.c_void_p
+    functions = {it: library.EVP_KDF_fetch(None, it.upper().encode(), None) for it in ALGORITHMS}
+    if None in functions.values():
+        raise OSError("this OpenSSL has no Argon2")
+    number, octets = 2, 5
+
+    def answer(request):
+        function, length, *inputs = request
+        if function != "hash":
+            return None
+        algorithm, version, m, t, p, *fields = inputs
+        numbers = {"version": version, "memcost": m, "iter": t, "lanes": p}
+        values = [(name, number, it.to_bytes(4, "little")) for name, it in numbers.items()]
+        values += [(name, octets, it) for name, it in zip(("pass", "salt", "secret", "ad"), fields) if it or name == "pass"]
+        given = [Parameter(name.encode(), kind, it, len(it), 0) for name, kind, it in values]
+        parameters = (Parameter * (len(given) + 1))(*given, Parameter())
+        out = ctypes.create_string_buffer(length)
+        context = ctypes.c_void_p(library.EVP_KDF_CTX_new(ctypes.c_void_p(functions[algorithm])))
+        is_made = library.EVP_KDF_derive(context, out, ctypes.c_size_t(length), parameters)
+        library.EVP_KDF_CTX_free(context)
+        return out.raw if is_made == 1 else None
+
+    return lambda requests: [answer(it) for it in requests]
+
+
 def python():
     """Python's hashlib."""
 
@@ -143,6 +185,7 @@ PROGRAMS = {
     "Bouncy Castle": bouncy_castle,
     "x/crypto": x_crypto,
     "libsodium": libsodium,
+    "OpenSSL": openssl,
     "hashlib": python,
 }
 
