@@ -10,11 +10,11 @@ Each program's function `answers` returns an answer for each request: bytes, a n
 such function or takes no such inputs.
 """
 
+import contextlib
 import ctypes
 import glob
 import hashlib
 import os
-import shutil
 import subprocess
 import tempfile
 
@@ -107,7 +107,7 @@ def by_lines(command, requests):
 def bouncy_castle():
     """Debian's package libbcprov-java."""
     (jar,) = glob.glob("/usr/share/java/bcprov.jar")
-    command = [shutil.which("java") or "java", "-Xmx2g", "-cp", jar, f"{HERE}/../programs/BouncyCastle.java"]
+    command = ["java", "-Xmx2g", "-cp", jar, f"{HERE}/../programs/BouncyCastle.java"]
     return lambda requests: by_lines(command, requests)
 
 
@@ -191,11 +191,11 @@ PROGRAMS = {
 
 
 def found():
-    """The programs that are here, by their names."""
+    """The programs that are here and answer, by their names."""
     programs = {}
     for name, start in PROGRAMS.items():
-        try:
-            programs[name] = start()
-        except (OSError, ValueError, subprocess.CalledProcessError):
-            continue
+        with contextlib.suppress(OSError, ValueError, subprocess.CalledProcessError):
+            ask = start()
+            ask([("blake2b", 1, b"")])
+            programs[name] = ask
     return programs
