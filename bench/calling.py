@@ -14,7 +14,7 @@ except exceptions.VerifyMismatchError:
     pass
 else:
     raise SystemExit("a wrong password is accepted")
-# (the tag is that of the reference's test.c)
+# (the tag is what the reference's test.c has)
 tag = low_level.hash_secret_raw(b"password", b"somesalt", 2, 256, 2, 32, Type.ID)
 assert tag.hex() == "6d093c501fd5999645e0ea3bf620d7b8be7fd2db59c20d9fff9539da2bf57037"
 long = low_level.hash_secret(b"password", b"somesalt" * 8, 2, 256, 2, 128, Type.ID)
