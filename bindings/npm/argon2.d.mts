@@ -1,109 +1,158 @@
-/** A string stands for its bytes in UTF-8. */
+/** Bytes. A string stands for its bytes in UTF-8; a string with half of a pair of surrogates is a TypeError. */
 export type Bytes = string | ArrayBuffer | ArrayBufferView;
 
+/** The variant of Argon2. "argon2id" is for passwords. */
 export type Algorithm = "argon2d" | "argon2i" | "argon2id";
 
-/** What a tag is made under. */
+/** How a raw hash is made. An option that is given as `undefined` is refused; leave it out for its default. */
 export interface TagOptions {
-  /** argon2id if it is left out, which is for passwords. */
+  /** The variant; "argon2id" if it is left out. */
   algorithm?: Algorithm;
-  /** 19 if it is left out. */
+  /** The version; 19 if it is left out. */
   version?: 16 | 19;
-  /** KiB; 19456 if it is left out. */
+  /** The memory in KiB, at least 8 for each lane; 19456 if it is left out. */
   memory?: number;
-  /** 2 if it is left out. */
+  /** The passes over the memory, at least 1; 2 if it is left out. */
   passes?: number;
-  /** 1 if it is left out. They change the tag, and are filled one after the other. */
+  /** The lanes, from 1 to 16777215; 1 if it is left out. They change the hash, and are filled one after the other. */
   lanes?: number;
-  /** Bytes of the hash; 32 if it is left out. */
+  /** The bytes of the hash, at least 4, and at most 64 in a stored hash; 32 if it is left out. */
   length?: number;
-  /** Enters each hash, and stands in no text. */
+  /** The secret key ("pepper"). It enters the hash, and no stored hash shows it. None if it is left out. */
   secret?: Bytes;
-  /** Enters the hash, and stands in the text. */
+  /** Associated data. It enters the hash. A stored hash shows it, and has at most 32 bytes of it. None if it is left out. */
   data?: Bytes;
 }
 
-/** What a text is made under. */
+/** How a stored hash is made. */
 export interface TextOptions extends TagOptions {
-  /** Stands in the text, to name the secret, say. */
+  /** A key identifier of at most 8 bytes, for example of the secret. The stored hash shows it, and it does not enter the hash. */
   keyid?: Bytes;
 }
 
-/** The most that a text may ask for, and the bytes that its hash may have. */
+/** The most that verifying a stored hash may cost, and the bytes that its hash may have. */
 export interface Bound {
-  /** KiB; 262144 if it is left out. */
+  /** The most memory in KiB; 262144 if it is left out. */
   memory?: number;
-  /** 8 if it is left out. */
+  /** The most passes; 8 if it is left out. */
   passes?: number;
-  /** 16 if it is left out. */
+  /** The most lanes; 16 if it is left out. */
   lanes?: number;
-  /** 16 if it is left out. */
+  /** The fewest bytes of the hash; 16 if it is left out. */
   minLength?: number;
-  /** 64 if it is left out. */
+  /** The most bytes of the hash; 64 if it is left out. */
   maxLength?: number;
 }
 
-/** What a login is answered under: what the stored text is verified under, and the settings of new texts. */
+/** What a login is answered under: what the stored hash is verified under, and the settings of new stored hashes. */
 export interface LogInOptions extends TextOptions {
-  /** Is tried if the text does not accept the password under the secret. */
+  /** The secret key that is tried if the stored hash does not accept the password under `secret`. */
   oldSecret?: Bytes | undefined;
+  /** The most that verifying the stored hash may cost. */
   bound?: Bound;
 }
 
 /** The answer to a login that is accepted. */
 export interface LogInAnswer {
-  /** The text to store from now on instead of the stored one, or `null` if nothing is to be stored. */
+  /** The hash to store from now on instead of the stored one, or `null` if nothing is to be stored. */
   hash: string | null;
 }
 
-/** What a text shows. The salt and the hash are empty if it has none. */
+/** What a stored hash shows. */
 export interface Parsed {
+  /** The variant. */
   algorithm: Algorithm;
+  /** The version, which is 16 if the stored hash shows none. */
   version: 16 | 19;
+  /** The memory in KiB. */
   memory: number;
+  /** The passes. */
   passes: number;
+  /** The lanes. */
   lanes: number;
+  /** The salt, which is empty if the stored hash has none. */
   salt: Uint8Array;
+  /** The hash, which is empty if the stored hash has none. */
   hash: Uint8Array;
+  /** The key identifier, which is empty if the stored hash has none. */
   keyid: Uint8Array;
+  /** The associated data, which is empty if the stored hash has none. */
   data: Uint8Array;
 }
 
-/** A refusal. `code` is its name, such as ABOVE_BOUND, and `number` that name's code in argon2_phc.h. */
+/** Why the library refused a call. */
 export class Argon2Error extends Error {
+  /** Makes the error of a code of argon2_phc.h. */
   constructor(number: number);
+  /** The name of the code in argon2_phc.h without ARGON2P_, such as "ABOVE_BOUND". */
   readonly code: string;
+  /** The negative number of the code in argon2_phc.h. */
   readonly number: number;
 }
 
-/** Each function throws an Argon2Error if it refuses what it is given. */
+/**
+ * Hashes and verifies. `load` makes one.
+ *
+ * Each function throws a TypeError for an option that does not exist or has a wrong type, a RangeError for a number that is not
+ * whole or not from 0 to 4294967295, and an Argon2Error for what the library refuses. Each function lists the codes of an
+ * Argon2Error in the order in which it looks for them.
+ */
 export class Argon2 {
   private constructor();
-  /** The PHC text of a password, with this salt of 8 to 48 bytes, or one of 16 bytes that the system draws. */
+  /**
+   * Returns the stored hash of a password, a PHC string. The salt has 8 to 48 bytes. If it is left out, the system draws one of
+   * 16 bytes.
+   *
+   * Codes: MEMORY_TOO_LITTLE, LANES_TOO_FEW, LANES_TOO_MANY, PASSES_TOO_FEW, OUTPUT_TOO_SHORT, KEYID_TOO_LONG, DATA_TOO_LONG,
+   * ALGORITHM, VERSION, SALT_TOO_SHORT, SALT_TOO_LONG, OUTPUT_TOO_LONG, OUT_OF_MEMORY.
+   */
   hash(password: Bytes, options?: TextOptions & { salt?: Bytes }): string;
-  /** Whether a text accepts a password under the secret or, if it is given, the old secret. It does not say under which. */
+  /**
+   * Returns whether a stored hash accepts a password under the secret or, if it is given, the old secret. It does not say under
+   * which. A stored hash that can't be verified is an error.
+   *
+   * Codes: TEXT_INVALID; TEXT_MEMORY, TEXT_PASSES, TEXT_LANES, TEXT_KEYID, TEXT_DATA or TEXT_PARAMETERS, by the first parameter
+   * that is wrong; ABOVE_BOUND, TEXT_INCOMPLETE, ALGORITHM, VERSION, OUTPUT_OUT_OF_BOUND, OUT_OF_MEMORY.
+   */
   verify(text: Bytes, password: Bytes, options?: { secret?: Bytes; oldSecret?: Bytes | undefined; bound?: Bound }): boolean;
   /**
-   * Answers a login. The answer is `null` if a text does not accept the password, as `verify` decides. Otherwise it is an object,
-   * whose `hash` is a new text to store from now on, or `null` if the stored text stays.
+   * Answers a login. The answer is `null` if a stored hash does not accept the password, as `verify` decides. Otherwise it is an
+   * object, whose `hash` is a new hash to store from now on, or `null` if the stored hash stays.
    *
-   * `logIn` makes a new text under these options in two cases. In the first, only the old secret accepted the password. In the
-   * second, the stored text is weaker than new texts: it has another algorithm, version, key identifier or data, less memory,
+   * `logIn` makes a new hash under these options in two cases. In the first, only the old secret accepted the password. In the
+   * second, the stored hash is weaker than new ones: it has another algorithm, version, key identifier or data, less memory,
    * fewer passes or lanes, or a shorter hash. Higher costs and a longer hash stay.
    *
-   * If there is no memory for a new text, the stored text stays. Options under which no text can be made are refused at each
-   * login, whatever the text and the password are.
+   * If there is no memory for a new hash, the stored hash stays. Options under which no hash can be made are refused at each
+   * login, whatever the stored hash and the password are.
+   *
+   * Codes: those of `hash` for the options, and then those of `verify`.
    */
   logIn(text: Bytes, password: Bytes, options?: LogInOptions): LogInAnswer | null;
-  /** Whether a text shows other settings than the wanted ones. It does not show its secret. */
+  /**
+   * Returns whether a stored hash shows other settings than the wanted ones. It does not show its secret.
+   *
+   * Codes: those of `hash` from MEMORY_TOO_LITTLE to VERSION, for the wanted settings; then those of `parse`.
+   */
   needsRehash(text: Bytes, wanted?: TextOptions): boolean;
-  /** What a text shows. Nothing is hashed. */
+  /**
+   * Returns what a stored hash shows. Nothing is hashed.
+   *
+   * Codes: TEXT_INVALID; TEXT_MEMORY, TEXT_PASSES, TEXT_LANES, TEXT_KEYID, TEXT_DATA or TEXT_PARAMETERS, by the first parameter
+   * that is wrong; ALGORITHM, VERSION.
+   */
   parse(text: Bytes): Parsed;
-  /** The hash of `length` bytes alone, as a key, say. */
+  /**
+   * Returns a hash of `length` bytes without a stored hash, for example as a key. The salt has at least 8 bytes.
+   *
+   * Codes: MEMORY_TOO_LITTLE, LANES_TOO_FEW, LANES_TOO_MANY, PASSES_TOO_FEW, OUTPUT_TOO_SHORT, ALGORITHM, VERSION,
+   * SALT_TOO_SHORT, OUT_OF_MEMORY.
+   */
   raw(password: Bytes, salt: Bytes, options?: TagOptions): Uint8Array;
   /**
-   * As `raw`, in turns between which others run: each fills a quarter of a lane, or goes on for 8 milliseconds.
-   * `onProgress` gets the share that is done.
+   * Does what `raw` does, in turns between which others run: each fills a quarter of a lane, or goes on for 8 milliseconds.
+   * The errors of `raw` reject the promise. After each turn `onProgress` gets the share that is done, from 0 to 1. If `signal`
+   * is aborted, its reason rejects the promise.
    */
   rawAsync(
     password: Bytes,
@@ -112,6 +161,11 @@ export class Argon2 {
   ): Promise<Uint8Array>;
 }
 
-/** Loads the module of the package, or another one. */
+/**
+ * Loads the module of the package, or another one, and returns its functions.
+ *
+ * A response whose status is not OK rejects the promise with an Error, and bytes that are no module with that of WebAssembly.
+ */
 export function load(source?: Source | Promise<Source>): Promise<Argon2>;
+/** A module of WebAssembly, its bytes, or a response with them. */
 export type Source = WebAssembly.Module | BufferSource | Response;

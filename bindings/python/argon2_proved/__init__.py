@@ -1,9 +1,24 @@
 """Passwords under a secret and within a bound, by the functions of argon2_phc.h.
 
-A `PasswordHasher` has the parameters of new texts, the secret, and the bound of the texts that it accepts. Texts are PHC
-strings. A password is bytes, or a str that stands for its bytes in UTF-8. What the library refuses is an `Error`; a str that has
-no bytes in UTF-8 is a `ValueError`, which does not hold it. Other threads run while a hash is made, and `max_memory` bounds what
-their hashes hold at once.
+A `PasswordHasher` has the parameters of new stored hashes, the secret key ("pepper"), and the bound
+of the stored hashes that it accepts. A stored hash is a PHC string in a str; each argument `text` is
+a stored hash. A password is bytes, or a str that stands for its bytes in UTF-8.
+
+    from argon2_proved import Mismatch, PasswordHasher
+
+    hasher = PasswordHasher(secret=secret)
+    stored = hasher.hash(password)
+    try:
+        stored = hasher.log_in(stored, password)  # store this from now on
+    except Mismatch:
+        ...  # the password is wrong
+
+What the library refuses is an `Error`, whose `name` says why; each function lists the names in the
+order in which it looks for them. A str that has no bytes in UTF-8 is a `ValueError`, which does not
+hold the str. A number that is negative or too large for the library is an `OverflowError`, and a
+password or a number of a wrong type is a `TypeError`. Objects may be used by several threads at
+once. Other threads run while a hash is made, and `max_memory` bounds what their hashes hold at
+once.
 """
 
 from __future__ import annotations
@@ -24,7 +39,13 @@ _CODES = _ffi.typeof("argon2p_code").elements
 
 
 class Error(Exception):
-    """A refusal: its code, and the code's name as in argon2_phc.h behind ARGON2P_, such as ABOVE_BOUND."""
+    """The library refused a call.
+
+    code: the negative number of the reason, as in argon2_phc.h
+    name: the name of the code without ARGON2P_, such as "ABOVE_BOUND"
+
+    str() gives the name and a message. An Error holds neither a password nor a secret.
+    """
 
     def __init__(self, code: int) -> None:
         super().__init__(code)
@@ -36,11 +57,11 @@ class Error(Exception):
 
 
 class Mismatch(Error):
-    """The text does not accept the password."""
+    """The stored hash does not accept the password: the Error with the name "MISMATCH"."""
 
 
 class Algorithm(IntEnum):
-    """`ID` is for passwords."""
+    """The variant of Argon2. `ID` (Argon2id) is for passwords; `I` is Argon2i, and `D` is Argon2d."""
 
     D = 0
     I = 1  # noqa: E741
@@ -48,7 +69,13 @@ class Algorithm(IntEnum):
 
 
 class Renewal(IntEnum):
-    """Whether a text has other parameters than the wanted ones: `CURRENT` is false, and the others are true."""
+    """Whether a stored hash has other parameters than new ones. `CURRENT` is false, and the others are
+    true.
+
+    CURRENT: it has the same algorithm, version, costs, key identifier, data and length of the hash
+    OTHER: it has others, and none of them is below the wanted ones
+    BELOW: its memory, passes, lanes, version or length of the hash is below the wanted ones
+    """
 
     CURRENT = 0
     OTHER = 1
@@ -57,7 +84,16 @@ class Renewal(IntEnum):
 
 @dataclass(frozen=True)
 class Bound:
-    """The most that verifying a text may cost, in blocks of 1024 bytes, passes and lanes, and the lengths of its hash."""
+    """The most that verifying a stored hash may cost, and the lengths of its hash.
+
+    memory_cost: the most memory in KiB
+    time_cost: the most passes
+    parallelism: the most lanes
+    min_hash_len, max_hash_len: the fewest and the most bytes of the hash
+
+    The worst stored hash within the defaults takes 2 GiB and half a minute of a processor or more,
+    and twice that if an old secret is tried. A service sets what its own stored hashes need.
+    """
 
     memory_cost: int = 2097152
     time_cost: int = 64
@@ -68,7 +104,17 @@ class Bound:
 
 @dataclass(frozen=True)
 class Parsed:
-    """What a text shows. The salt and the hash are empty if it has none."""
+    """What a stored hash shows.
+
+    algorithm: the variant
+    version: 16 or 19, and 16 if the stored hash shows no version
+    memory_cost: the memory in KiB
+    time_cost: the passes
+    parallelism: the lanes
+    keyid: the key identifier, at most 8 bytes
+    data: the associated data, at most 32 bytes
+    salt, hash: the bytes of both, each of which is empty if the stored hash has none
+    """
 
     algorithm: Algorithm
     version: int
@@ -117,7 +163,13 @@ def _structure(kind: str, **members: Any) -> Any:
 
 
 def parse(text: str) -> Parsed:
-    """What a text shows. Nothing is hashed."""
+    """Returns what a stored hash shows. Nothing is hashed.
+
+    text: the stored hash
+
+    Error: TEXT_INVALID; TEXT_MEMORY, TEXT_PASSES, TEXT_LANES, TEXT_KEYID, TEXT_DATA or
+        TEXT_PARAMETERS, by the first parameter that is wrong; ALGORITHM; VERSION
+    """
     given, shown = _text(text), _structure("argon2p_shown")
     _must(_lib.argon2p_parse(given, len(given), shown))
     costs = shown.m_cost, shown.t_cost, shown.p_cost
@@ -126,21 +178,40 @@ def parse(text: str) -> Parsed:
 
 
 class PasswordHasher:
-    """Makes and verifies texts. The costs have the names and the order of argon2-cffi's class.
+    """Makes and verifies stored hashes. The costs have the names and the order of argon2-cffi's class.
 
-    time_cost, memory_cost, parallelism, hash_len, algorithm, version: of new texts
-    secret: enters each hash, and stands in no text
-    old_secret: a text that does not accept the password under the secret is tried under this one, unless it is None
-    keyid: stands in new texts, to name the secret, say
-    data: enters the hash of new texts, and stands in them
-    bound: what a text may cost that is verified
-    threads: the most that fill the lanes of a hash; 0 is as many as lanes
-    max_memory: the most KiB that the hashes of this object hold at once, in all threads. A hash waits until there is room for it,
-        in the order of asking. A text that asks for more than this is ABOVE_BOUND. This also sets M_MMAP_THRESHOLD of mallopt(3),
-        for the whole process: glibc else keeps the freed memory of a hash for each thread, up to 32 MiB
-    timeout: the seconds after which a hash that waits is `Busy`; it waits for any time if this is None
+    time_cost: the passes of new stored hashes, at least 1
+    memory_cost: their memory in KiB, at least 8 for each lane
+    parallelism: their lanes, from 1 to 16777215, which change the hash
+    hash_len: the bytes of their hash, from 4 to 64; `tag` also makes longer ones
+    algorithm: their variant
+    version: their version, 19 (0x13) or 16 (0x10)
+    secret: the secret key, which enters each hash, and which no stored hash shows
+    old_secret: the secret key under which a stored hash is tried that does not accept the password
+        under the secret, unless it is None. With no bytes, stored hashes without a secret are
+        accepted too
+    keyid: a key identifier of at most 8 bytes, which new stored hashes show, to name the secret for
+        example
+    data: associated data of at most 32 bytes, which enters the hash of new stored hashes, and which
+        they show
+    bound: what a stored hash may cost that is verified
+    threads: the most threads that fill the lanes of a hash; 0 is as many as lanes. They do not
+        change the hash
+    max_memory: the most KiB that the hashes of this object hold at once, in all threads. A hash
+        waits until there is room for it, in the order of asking. A stored hash that asks for more
+        than this is ABOVE_BOUND. This also sets M_MMAP_THRESHOLD of mallopt(3) for the whole
+        process, because glibc otherwise keeps the freed memory of a hash for each thread, up to 32
+        MiB
+    timeout: the seconds after which a hash that waits is `Busy`; it waits for any time if this is
+        None
 
-    Secrets, the key identifier and the data are copied, so the caller may clear what it gave. The copies stay as long as this.
+    Secrets, the key identifier and the data are copied, so the caller may clear what it gave. The
+    copies stay as long as this object.
+
+    Error: MEMORY_TOO_LITTLE; LANES_TOO_FEW; LANES_TOO_MANY; PASSES_TOO_FEW; OUTPUT_TOO_SHORT (a
+        hash_len below 4); OUTPUT_TOO_LONG (above 4294967295); KEYID_TOO_LONG; DATA_TOO_LONG;
+        ALGORITHM; VERSION; SECRET_TOO_LONG
+    ValueError: a timeout without max_memory; a max_memory that is less than memory_cost
     """
 
     def __init__(
@@ -188,7 +259,15 @@ class PasswordHasher:
         self._memory = None if max_memory is None else Memory(max_memory, timeout)
 
     def hash(self, password: str | bytes, *, salt: bytes | None = None) -> str:
-        """The text of a password, with this salt of 8 to 48 bytes, or one of 16 bytes that the system draws."""
+        """Returns the stored hash of a password.
+
+        password: at most 4294967295 bytes
+        salt: 8 to 48 bytes; if it is None, the system draws 16 bytes
+
+        Busy: there was no room for the hash within the timeout
+        Error: SALT_TOO_SHORT; SALT_TOO_LONG; OUTPUT_TOO_LONG (a hash_len above 64);
+            PASSWORD_TOO_LONG; NO_RANDOM; OUT_OF_MEMORY
+        """
         given, text = _buffer(password), _ffi.new("char[]", _lib.ARGON2P_TEXT_SIZE)
         # (the bytes of a value need not be as many as its items, and no bytes also have an address, so that no salt is drawn)
         start = _ffi.from_buffer(b"" if salt is None else _bytes_of(salt))
@@ -199,14 +278,31 @@ class PasswordHasher:
         return made.decode()
 
     def verify(self, text: str, password: str | bytes) -> bool:
-        """Returns True if a text accepts a password. If it does not, that is a `Mismatch`, and all else another `Error`."""
+        """Returns True if a stored hash accepts a password under the secret or the old secret. It
+        never returns False.
+
+        text: the stored hash
+        password: at most 4294967295 bytes
+
+        Busy: there was no room for the hash within the timeout. A stored hash that can't be read or
+            is above the bound is refused without a wait
+        Error: TEXT_INVALID; TEXT_MEMORY, TEXT_PASSES, TEXT_LANES, TEXT_KEYID, TEXT_DATA or
+            TEXT_PARAMETERS, by the first parameter that is wrong; ABOVE_BOUND; TEXT_INCOMPLETE;
+            ALGORITHM; VERSION; OUTPUT_OUT_OF_BOUND; PASSWORD_TOO_LONG; SECRET_TOO_LONG;
+            OUT_OF_MEMORY; and last `Mismatch`
+        """
         self._is_by_old_secret(text, password)
         return True
 
     def log_in(self, text: str, password: str | bytes) -> str:
-        """Verifies, and returns the text to store from now on: a new one if this is under the old secret or weaker than new ones.
+        """Verifies a password, and returns the stored hash to store from now on.
 
-        It stays if no new one can be made, as there is no memory, say: a password that is accepted never gets an error for that.
+        That is a new one if `text` accepted the password only under the old secret, or is weaker
+        than new ones (`is_weaker`). Otherwise it is `text`. It is also `text` if no new one can be
+        made, for example without memory: a password that is accepted never gets an error for that
+        reason.
+
+        text, password: as in `verify`, which also lists the errors
         """
         if self._is_by_old_secret(text, password) or self.is_weaker(text):
             try:
@@ -216,19 +312,40 @@ class PasswordHasher:
         return text
 
     def is_weaker(self, text: str) -> bool:
-        """Whether a text has another algorithm, version, key identifier or data than new ones, a lower cost or a shorter hash."""
+        """Returns whether a stored hash is weaker than new ones.
+
+        It is weaker if it has another algorithm, version, key identifier or data, a lower cost, or
+        a shorter hash. Higher costs and a longer hash do not count.
+
+        text: the stored hash
+
+        Error: as in `parse`
+        """
         shown = parse(text)
         kind = shown.algorithm, shown.version, shown.keyid, shown.data
         return kind != self._kind or self.needs_rehash(text) == Renewal.BELOW
 
     def needs_rehash(self, text: str) -> Renewal:
-        """Whether a text shows other parameters than those of new texts. It does not show its secret."""
+        """Returns whether a stored hash shows other parameters than new ones do. It does not show its
+        secret.
+
+        text: the stored hash
+
+        Error: as in `parse`
+        """
         given, answer = _text(text), _ffi.new("int *")
         _must(_lib.argon2p_needs_rehash(self._params, given, len(given), answer))
         return Renewal(answer[0])
 
     def tag(self, password: str | bytes, salt: bytes) -> bytes:
-        """The hash of `hash_len` bytes alone, as a key, say."""
+        """Returns a hash of `hash_len` bytes without a stored hash, for example as a key.
+
+        password: at most 4294967295 bytes
+        salt: 8 to 4294967295 bytes
+
+        Busy: there was no room for the hash within the timeout
+        Error: PASSWORD_TOO_LONG; SALT_TOO_SHORT; SALT_TOO_LONG; OUT_OF_MEMORY
+        """
         given, start, out = _buffer(password), _buffer(salt), bytearray(self._hash_len)
         size = len(given), len(start)
         with self._lent(self._params.m_cost):
