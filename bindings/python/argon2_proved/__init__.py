@@ -154,6 +154,8 @@ def _buffer(value: str | bytes) -> Any:
 
 def _text(value: str) -> Any:
     """A text for the library, which refuses all but ASCII."""
+    if not isinstance(value, str):
+        raise TypeError(f"a stored hash is a str, and not {type(value).__name__}")
     return _buffer(value.encode("utf-8", "surrogatepass"))
 
 
