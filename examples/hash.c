@@ -1,4 +1,4 @@
-/* Hashes a password to a text and verifies it: cc hash.c -largon2 */
+/* Hashes a password to a text and verifies it: cc hash.c $(pkg-config --cflags --libs libargon2-proved) */
 #include <argon2.h>
 #include <stdio.h>
 #include <stdlib.h>

@@ -1,7 +1,7 @@
 // Hashes a password to a text and verifies it.
 package main
 
-// #cgo pkg-config: libargon2
+// #cgo pkg-config: libargon2-proved
 // #include <argon2.h>
 // #include <stdlib.h>
 import "C"

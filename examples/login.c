@@ -1,4 +1,5 @@
-/* Verifies a password by a text that was made under a secret, within a bound, and renews the text: cc login.c -largon2 */
+/* Verifies a password by a text that was made under a secret, within a bound, and renews the text:
+ * cc login.c $(pkg-config --cflags --libs libargon2-proved) */
 #include <argon2_phc.h>
 #include <stdio.h>
 #include <stdlib.h>
