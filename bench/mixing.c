@@ -1,5 +1,5 @@
-/* Times the mixing of two blocks (RFC 9106, section 3.5) in plain C: prints the least tenths of a
-   nanosecond of a mix, and the exclusive or of all words at the end. */
+/* Times the mixing of two blocks (RFC 9106, section 3.5) in plain C. Prints the least time of a mix in
+   tenths of a nanosecond, and the exclusive or of all words at the end. */
 #include <inttypes.h>
 #include <stdint.h>
 #include <stdio.h>
@@ -28,7 +28,7 @@ static uint64_t rotated(uint64_t x, int k)
         b = rotated(b ^ c, 63);    \
     } while (0)
 
-/* P on eight registers of two words, the first at z and each `step` words after the one before. */
+/* The permutation P on eight registers of two words. The first register is at z, and each next one is `step` words further. */
 __attribute__((always_inline)) static inline void permute(uint64_t *z, int step)
 {
 #define WORD(k) z[step * (k / 2) + k % 2]

@@ -34,7 +34,7 @@ unfoldable pub use Rattle.argon2_base.specs.Block.{by_columns, by_rows, column, 
 pub use Rattle.argon2_base.specs.ByteList.{IsBase64Cause, base64_length}
 pub use Rattle.argon2_base.specs.Hasher.{Hasher, blocks_before, held_len}
 unfoldable pub use Rattle.argon2_base.specs.Hasher.{Holds, hash_after, hash_on}
-pub use Rattle.argon2_base.specs.Lanes.{column_lanes, exchanged_left, exchanged_right, fours, group, half_word, lane, lane_word, pairs, vector_words, written}
+pub use Rattle.argon2_base.specs.Lanes.{column_lanes, exchanged_left, exchanged_right, row_in_fours, group, half_word, lane, lane_word, column_in_pairs, vector_words, written}
 unfoldable pub use Rattle.argon2_base.specs.Lanes.{words_in_eights}
 pub use Rattle.argon2_base.specs.LongHash.{half, joined}
 unfoldable pub use Rattle.argon2_base.specs.LongHash.{chain, long_hash}

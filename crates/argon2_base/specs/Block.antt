@@ -22,7 +22,7 @@ abbrev pub bytes_of : List ℕ → List ℕ
 bytes_of words = flat_map (to_le_bytes w64) words
 
 -- The mixing of two blocks, G (RFC 9106, sections 3.5 and 3.6). A block is eight rows of eight
--- registers, and a register is two words: those of row i and column j stand at 16 * i + 2 * j and
+-- registers, and a register is two words: the words of row i and column j stand at 16 * i + 2 * j and
 -- the place after it.
 
 -- u + v + 2 * low32(u) * low32(v), where BLAKE2b has u + v

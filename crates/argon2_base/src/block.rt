@@ -10,6 +10,7 @@ use std::marker::Model;
 use std::ops::{BitXor, BitXorAssign};
 
 mod kernel;
+mod lanes;
 mod textbook;
 
 /// The words of a block, as a C caller has them.
@@ -50,7 +51,7 @@ impl Block {
     /// The size of a block in bytes.
     pub const SIZE: usize = 1024;
 
-    /// The words, as [`mix_words`] and [`xor_words`] take a block.
+    /// The words, for [`put_mixed_words`] and [`xor_words`].
     pub fn as_words(&self) -> &Words
         ensures { result.now ≡ self.now }
     {
@@ -106,8 +107,8 @@ impl Block {
         Block::from(textbook::mix(&x.words, &y.words))
     }
 
-    /// Mixes the two blocks whose exclusive or is `xor`, as [`mix`](Block::mix) does, by another body,
-    /// which is faster on processors with AVX2. Memory is filled by it. The result replaces this block,
+    /// Mixes the two blocks whose exclusive or is `xor`, as [`mix`](Block::mix) does, but by other code,
+    /// which is faster on processors with AVX2 and fills memory. The result replaces this block,
     /// or is xored with it if `xors`. Counts one mixing in `work`, whose count must be below the
     /// greatest `u128`.
     pub fn put_mixed(&mut self, xor: &Block, xors: bool, work: &mut Work)
@@ -182,7 +183,7 @@ impl BitXorAssign<&Block> for Block {
     }
 }
 
-/// A count of mixings. Nothing but what mixes two blocks adds to it, and it cannot be copied.
+/// A count of mixings. Only a mixing of two blocks adds to it, and it cannot be copied.
 #[derive(Debug, Drop)]
 pub struct Work {
     mixes: u128,
@@ -208,20 +209,6 @@ impl Work {
     {
         self.mixes
     }
-}
-
-/// Mixes two blocks that are given by their words, as [`Block::mix`] does, by the body of
-/// [`put_mixed_words`].
-pub fn mix_words(x: &Words, y: &Words, work: &mut Work) -> Words
-    requires { work.old < 2 ^ 128 - 1 }
-    ensures words { result ≡ mixed x.now y.now }
-    ensures counted { work.new ≡ work.old + 1 }
-{
-    let mut r = *x;
-    xor_words(&mut r, y);
-    let mut out = [0; 128];
-    put_mixed_words(&mut out, &r, false, work);
-    out
 }
 
 /// The same as [`Block::put_mixed`], on the words of blocks.

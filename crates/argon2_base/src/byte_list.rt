@@ -44,7 +44,7 @@ impl<const N: usize> ByteList<N> {
         })
     }
 
-    /// The list whose strict Base64 the text is. `InvalidLength` if the text is longer than that
+    /// The list whose strict Base64 the text is. `InvalidLength` if the text is longer than the Base64
     /// of `N` bytes, else `InvalidEncoding` if it is the strict Base64 of no bytes.
     pub fn from_b64(text: &str) -> Result<Self, B64Error>
         ensures { IsListOfText text.now result }

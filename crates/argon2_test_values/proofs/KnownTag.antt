@@ -15,7 +15,7 @@ halves : ℕ → List ℕ → List ℕ
 halves zero v = []
 halves (suc r) v = let next = blake2b 64 v in take 32 next ++ halves r next
 
--- the halves are those of a chain
+-- the halves of all pieces are the first halves of the chain
 halves_of_chain : (first : List ℕ) (k r : ℕ) → flat_map (half first) (range_with_len (k + 1) r) ≡ halves r (chain first k)
 unfolding chain halves
 halves_of_chain first k zero = refl

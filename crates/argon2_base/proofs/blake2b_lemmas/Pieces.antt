@@ -17,7 +17,7 @@ flat_map_more f a (suc n) m e = rw (flat_map_more f (a + 1) n m (omega arith), a
 pub halves_next : (first : List ℕ) (i : ℕ) → first_halves first (i + 1) ≡ first_halves first i ++ half first (i + 1)
 halves_next first i = rw add-one (flat_map_more (half first) 1 i (suc i) (omega arith))
 
--- each digest is that of the one before it
+-- each digest is the digest of the digest before it
 pub chain_next : (first : List ℕ) (i : ℕ) → chain first (i + 1) ≡ blake2b 64 (chain first i)
 unfolding chain
 chain_next first i = rw add-one refl

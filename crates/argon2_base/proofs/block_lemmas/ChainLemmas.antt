@@ -1,6 +1,6 @@
 -- Vectors of sixteen lanes, and P on groups of lanes of four of them.
 use Rattle.argon2_base.proofs.Imports.{◌≡◌, ℕ, zero, suc, ◌<◌, ◌+◌, ◌%◌, List, [], ◌∷◌, ◌++◌, length, slice_index, map, arith, refl, ap, ◌∙◌, range_with_len, get_or-map, get_or_append_left}
-use Rattle.argon2_base.proofs.Imports.{pick_l, gb, mix_columns, mix_diagonals, perm, exchanged_left, exchanged_right, fours, group, lane_word, vector_words}
+use Rattle.argon2_base.proofs.Imports.{pick_l, gb, mix_columns, mix_diagonals, perm, exchanged_left, exchanged_right, row_in_fours, group, lane_word, vector_words}
 use Rattle.argon2_base.proofs.block_lemmas.LaneLemmas.{row_at, word_at}
 
 -- what is true of 0 to 3 is true of each number below 4
@@ -47,8 +47,8 @@ transposed x =
     let a3 = exchanged_right 16 4 (row_at x 2) (row_at x 3) in
     exchanged_left 16 8 a0 a2 ∷ exchanged_left 16 8 a1 a3 ∷ exchanged_right 16 8 a0 a2 ∷ exchanged_right 16 8 a1 a3 ∷ []
 
-pub fours_of_transposed : (x : List (List ℕ)) (i : ℕ) → i < 4 → fours i (transposed x) ≡ vector_words i x
+pub fours_of_transposed : (x : List (List ℕ)) (i : ℕ) → i < 4 → row_in_fours i (transposed x) ≡ vector_words i x
 fours_of_transposed x = below_four _ refl refl refl refl
 
-pub vectors_of_transposed : (x : List (List ℕ)) (i : ℕ) → i < 4 → vector_words i (transposed x) ≡ fours i x
+pub vectors_of_transposed : (x : List (List ℕ)) (i : ℕ) → i < 4 → vector_words i (transposed x) ≡ row_in_fours i x
 vectors_of_transposed x = below_four _ refl refl refl refl

@@ -100,7 +100,7 @@ half_row x i k e hi hk he =
     below_eight (λ i. lane_word (every_second x e) i k ≡ lane_word x (2 * i + e) k) refl refl refl refl refl refl refl refl i hi
     ∙ sym (word_in_eights x (2 * i + e) k (16 * i + (8 * e + k)) (omega arith) hk (omega arith))
 
--- vectors of y, and then those of z
+-- the vectors of y, and then the vectors of z
 abbrev one_after_the_other : List (List ℕ) → List (List ℕ) → List (List ℕ)
 one_after_the_other y z =
     row_at y 0 ∷ row_at y 1 ∷ row_at y 2 ∷ row_at y 3 ∷ row_at y 4 ∷ row_at y 5 ∷ row_at y 6 ∷ row_at y 7

@@ -1,7 +1,7 @@
 -- From the vectors of the kernel to the mixing that the standard defines.
 use Rattle.argon2_base.proofs.Imports.{same_number_lists, ◌≡◌, ℕ, Bool, false, ◌<◌, ◌≤◌, ◌+◌, ◌-◌, ◌*◌, ◌/◌, ◌%◌, List, [], inl, inr, length, map, slice_index, slice_index_or, ◌==◌}
 use Rattle.argon2_base.proofs.Imports.{if◌then◌else◌, arith, refl, sym, ap, ap₂, ◌∙◌, zero-add, cases_lt, get_or-map-range_with_len, length-map-range_with_len, length-zip2, range_with_len}
-use Rattle.argon2_base.proofs.Imports.{by_columns, by_rows, column, perm, row, xor_blocks, column_lanes, half_word, lane, lane_word, pairs, vector_words, written}
+use Rattle.argon2_base.proofs.Imports.{by_columns, by_rows, column, perm, row, xor_blocks, column_lanes, half_word, lane, lane_word, column_in_pairs, vector_words, written}
 use Rattle.std.proofs.Common.{bit_xor}
 use Rattle.argon2_base.proofs.block_lemmas.LaneLemmas.{zip2_at, word_at, words_are}
 
@@ -118,7 +118,7 @@ kernel_mixes r out rows across cols down long_r long_out rows_are across_are col
 pub half_mixed : (r : List ℕ) (x across v : List (List ℕ)) (h : ℕ)
     → ((i : ℕ) → i < 8 → (k : ℕ) → k < 16 → lane_word x i k ≡ slice_index r (16 * i + k))
     → ((i : ℕ) → i < 8 → vector_words i across ≡ perm (vector_words i x))
-    → ((j : ℕ) → j < 4 → pairs j v ≡ perm (column_lanes (4 * h + j) across))
+    → ((j : ℕ) → j < 4 → column_in_pairs j v ≡ perm (column_lanes (4 * h + j) across))
     → (w : ℕ) → w < 128 → w % 16 / 8 ≡ h → half_word v w ≡ mixed_word r w
 unfolding column row
 half_mixed r x across v h x_is across_are v_are w below half =

@@ -67,7 +67,7 @@ short_bytes_again most s b bytes short is = grind (arith, decode_of-strict_base6
 none_unless : (o : Option (List ℕ)) → ((b : List ℕ) → o ≡ Some b → ⊥) → o ≡ None
 none_unless o h = grind arith
 
--- a text that is refused is that of no bytes which would fit
+-- a text that is refused is not the Base64 of bytes that fit
 pub refused_text : (most : ℕ) (s : List ℕ) (cause : B64Error) → IsBase64Cause (base64_length most) s cause
     → (b : List ℕ) → IsBytes b → length b ≤ most → s ≢ strict_base64 b
 refused_text most s InvalidLength long b bytes fits is = omega (arith, ap length is, length-strict_base64 b)

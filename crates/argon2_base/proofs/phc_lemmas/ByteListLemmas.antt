@@ -49,7 +49,7 @@ decoded_into_zeros s t new room wide n same length_is text_bytes ok bytes' writt
       fits = grind arith;
     }
 
--- no text of bytes is refused that is no longer than that of as many bytes as there is room for
+-- the Base64 of bytes that fit into the list is not refused
 pub decode_slice_err : (s t b : List ℕ) (room wide : ℕ) (f : DecodeSliceError) → t ≡ s → wide ≡ room
     → IsBytes b → s ≡ strict_base64 b → length s ≤ base64_length room
     → Err f ≡ decode_slice_of standard_no_pad t wide → ⊥

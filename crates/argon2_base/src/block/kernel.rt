@@ -1,11 +1,12 @@
-//! The mixing of two blocks over eight vectors of sixteen words, each a row. P goes on four rows or four
-//! columns at once, over four vectors, so the four computations of GB do not wait for each other.
+//! The fast mixing of two blocks, which fills memory. It works on eight vectors of sixteen words, each a
+//! row. P goes on four rows or four columns at once, over four vectors, so the four computations of GB do
+//! not wait for each other.
 
 ghost use Rattle.std.specs.Prelude.{◌≡◌, ℕ, ◌+◌, ◌-◌, ◌*◌, ◌/◌, ◌%◌, ◌<◌, ◌≤◌, List, length, slice_index, bit_xor, if◌then◌else◌};
 ghost use Rattle.argon2_base.specs.Block.{add_mul, gb, mixed, perm, xor_blocks, xor_rotate};
-ghost use Rattle.argon2_base.specs.Lanes.{column_lanes, exchanged_left, exchanged_right, fours, half_word, lane_word, pairs, vector_words, written};
+ghost use Rattle.argon2_base.specs.Lanes.{column_lanes, exchanged_left, exchanged_right, row_in_fours, half_word, lane_word, column_in_pairs, vector_words, written};
 
-use super::textbook;
+use super::lanes;
 use std::simd::{u64x8, u64x16};
 
 // u + v + 2 * low32(u) * low32(v) in each lane.
@@ -35,7 +36,7 @@ fn xor_rotate(a: u64x16, b: u64x16, k: u64) -> u64x16
 // GB in each lane of four vectors.
 #[inline(always)]
 #[tactic(auto, unfolding(crate::specs::Block::gb))]
-pub(super) fn gb(v: [u64x16; 4]) -> [u64x16; 4]
+fn gb(v: [u64x16; 4]) -> [u64x16; 4]
     ensures { (j : ℕ) → j < 16
         → (
           lane_word result 0 j,
@@ -87,7 +88,7 @@ fn fours_by_three(x: u64x16) -> u64x16
 // P on each of four rows: word 4 * q + k of row i is lane 4 * i + k of vector q.
 #[inline(always)]
 fn perm_fours(v: [u64x16; 4]) -> [u64x16; 4]
-    ensures { (i : ℕ) → i < 4 → fours i result ≡ perm (fours i v) }
+    ensures { (i : ℕ) → i < 4 → row_in_fours i result ≡ perm (row_in_fours i v) }
 {
     let [a, b, c, d] = gb(v);
     let [a, b, c, d] = gb([fours_by_three(a), b, fours_by_one(c), fours_by_two(d)]);
@@ -127,7 +128,7 @@ fn pairs_by_three(x: u64x16) -> u64x16
 // P on each of four columns: word 4 * q + k of column j is lane 8 * (k / 2) + 2 * j + k % 2 of vector q.
 #[inline(always)]
 fn perm_pairs(v: [u64x16; 4]) -> [u64x16; 4]
-    ensures { (j : ℕ) → j < 4 → pairs j result ≡ perm (pairs j v) }
+    ensures { (j : ℕ) → j < 4 → column_in_pairs j result ≡ perm (column_in_pairs j v) }
 {
     let [a, b, c, d] = gb(v);
     let [a, b, c, d] = gb([pairs_by_three(a), b, pairs_by_one(c), pairs_by_two(d)]);
@@ -168,8 +169,8 @@ fn exchange_halves(a: u64x16, b: u64x16) -> (u64x16, u64x16)
 // Group i of vector q goes to group q of vector i.
 #[inline(always)]
 fn transpose(x: [u64x16; 4]) -> [u64x16; 4]
-    ensures to_fours { (i : ℕ) → i < 4 → fours i result ≡ vector_words i x }
-    ensures to_vectors { (i : ℕ) → i < 4 → vector_words i result ≡ fours i x }
+    ensures to_fours { (i : ℕ) → i < 4 → row_in_fours i result ≡ vector_words i x }
+    ensures to_vectors { (i : ℕ) → i < 4 → vector_words i result ≡ row_in_fours i x }
 {
     let [x0, x1, x2, x3] = x;
     let (a0, a1) = exchange_fours(x0, x1);
@@ -201,7 +202,7 @@ fn rows(r: [u64x16; 8]) -> [u64x16; 8]
 // P on the columns of the left halves of the rows.
 #[inline(always)]
 fn left_columns(r: &[u64x16; 8]) -> [u64x16; 4]
-    ensures { (j : ℕ) → j < 4 → pairs j result ≡ perm (column_lanes (0 + j) r.now) }
+    ensures { (j : ℕ) → j < 4 → column_in_pairs j result ≡ perm (column_lanes (0 + j) r.now) }
 {
     let (a, _) = exchange_halves(r[0], r[1]);
     let (b, _) = exchange_halves(r[2], r[3]);
@@ -213,7 +214,7 @@ fn left_columns(r: &[u64x16; 8]) -> [u64x16; 4]
 // P on the columns of the right halves of the rows.
 #[inline(always)]
 fn right_columns(r: &[u64x16; 8]) -> [u64x16; 4]
-    ensures { (j : ℕ) → j < 4 → pairs j result ≡ perm (column_lanes (4 + j) r.now) }
+    ensures { (j : ℕ) → j < 4 → column_in_pairs j result ≡ perm (column_lanes (4 + j) r.now) }
 {
     let (_, a) = exchange_halves(r[0], r[1]);
     let (_, b) = exchange_halves(r[2], r[3]);
@@ -222,9 +223,9 @@ fn right_columns(r: &[u64x16; 8]) -> [u64x16; 4]
     perm_pairs([a, b, c, d])
 }
 
-// The sixteen words from a place on.
+// The row of sixteen words from a place on.
 #[inline(always)]
-fn load(words: &[u64], at: usize) -> u64x16
+fn load_row(words: &[u64], at: usize) -> u64x16
     requires { at + 16 ≤ length words.now }
     ensures { (k : ℕ) → k < 16 → slice_index result k ≡ slice_index words.now (at + k) }
 {
@@ -238,20 +239,20 @@ fn rows_of(r: &[u64; 128]) -> [u64x16; 8]
         → lane_word result i k ≡ slice_index r.now (16 * i + k) }
 {
     [
-        load(r, 0),
-        load(r, 16),
-        load(r, 32),
-        load(r, 48),
-        load(r, 64),
-        load(r, 80),
-        load(r, 96),
-        load(r, 112),
+        load_row(r, 0),
+        load_row(r, 16),
+        load_row(r, 32),
+        load_row(r, 48),
+        load_row(r, 64),
+        load_row(r, 80),
+        load_row(r, 96),
+        load_row(r, 112),
     ]
 }
 
 // The first eight lanes of a vector.
 #[inline(always)]
-pub(super) fn left_half(x: u64x16) -> u64x8
+fn left_half(x: u64x16) -> u64x8
     ensures { (k : ℕ) → k < 8 → slice_index result k ≡ slice_index x (0 + k) }
 {
     x.extract::<0, 8>()
@@ -259,7 +260,7 @@ pub(super) fn left_half(x: u64x16) -> u64x8
 
 // The last eight lanes of a vector.
 #[inline(always)]
-pub(super) fn right_half(x: u64x16) -> u64x8
+fn right_half(x: u64x16) -> u64x8
     ensures { (k : ℕ) → k < 8 → slice_index result k ≡ slice_index x (8 + k) }
 {
     x.extract::<8, 8>()
@@ -278,12 +279,12 @@ fn put(out: &mut [u64], at: usize, v: u64x8, r: &[u64; 128], xors: bool)
     ensures below { (k : ℕ) → k < at → slice_index out.new k ≡ slice_index out.old k }
     ensures above { (k : ℕ) → at + 8 ≤ k → slice_index out.new k ≡ slice_index out.old k }
 {
-    let r = textbook::load(r, at);
+    let r = lanes::load(r, at);
     if xors {
-        let old = textbook::load(out, at);
-        textbook::store_xor(out, at, old, v ^ r);
+        let old = lanes::load(out, at);
+        lanes::store_xor(out, at, old, v ^ r);
     } else {
-        textbook::store_xor(out, at, v, r);
+        lanes::store_xor(out, at, v, r);
     }
 }
 

@@ -1,60 +1,61 @@
-//! The mixing of two blocks over sixteen vectors of eight words: lane i of vector k is word k of row i,
-//! and then word k of column i, so that P goes on eight rows and on eight columns at once.
+//! The mixing of two blocks in the textbook's form: the steps of RFC 9106, sections 3.5 and 3.6, in their
+//! order. It works on sixteen vectors of eight words: lane i of vector k is word k of row i, and then word k
+//! of column i, so P goes on eight rows at once, and then on eight columns.
 #![tactic(auto, using(crate::proofs::block_lemmas::LaneLemmas::lane_steps))]
 
 ghost use Rattle.std.specs.Prelude.{◌≡◌, ℕ, ◌+◌, ◌*◌, ◌/◌, ◌%◌, ◌<◌, ◌≤◌, length, slice_index, bit_xor, ◌==◌, if◌then◌else◌};
-ghost use Rattle.argon2_base.specs.Block.{gb, mixed, perm, row, xor_blocks};
+ghost use Rattle.argon2_base.specs.Block.{add_mul, gb, mixed, perm, row, xor_blocks, xor_rotate};
 ghost use Rattle.argon2_base.specs.Lanes.{exchanged_left, exchanged_right, lane, lane_word, words_in_eights};
 
-use super::kernel::{self, left_half, right_half};
-use std::simd::{u64x8, u64x16};
+use super::lanes::{load, store_xor};
+use std::simd::u64x8;
 
-// The words of a, and then those of b. Both stay in the registers where they are.
+// u + v + 2 * low32(u) * low32(v) in each lane.
 #[inline(always)]
-fn side_by_side(a: u64x8, b: u64x8) -> u64x16
-    ensures left { (j : ℕ) → j < 8 → slice_index result (0 + j) ≡ slice_index a j }
-    ensures right { (j : ℕ) → j < 8 → slice_index result (8 + j) ≡ slice_index b j }
+#[tactic(auto, using(crate::proofs::block_lemmas::LaneLemmas::lane_steps), unfolding(crate::specs::Block::add_mul))]
+fn add_mul(a: u64x8, b: u64x8) -> u64x8
+    ensures { (j : ℕ) → j < 8 → slice_index result j
+        ≡ add_mul (slice_index a j) (slice_index b j) }
 {
-    a.shuffle(b, [0, 1, 2, 3, 4, 5, 6, 7, 8, 9, 10, 11, 12, 13, 14, 15])
+    let low = u64x8::splat(0xffff_ffff);
+    let product = (a & low) * (b & low);
+    a + b + (product + product)
 }
 
-// GB in each lane of the first four vectors, and in step with it of the other four.
+// (a xor b) >>> k in each lane.
 #[inline(always)]
-fn gb_twice(v: [u64x8; 8]) -> [u64x8; 8]
-    ensures first { (j : ℕ) → j < 8
+#[tactic(auto, using(crate::proofs::block_lemmas::LaneLemmas::lane_steps), unfolding(crate::specs::Block::xor_rotate))]
+fn xor_rotate(a: u64x8, b: u64x8, k: u64) -> u64x8
+    requires { (0 < k) × (k < 64) }
+    ensures { (j : ℕ) → j < 8 → slice_index result j
+        ≡ xor_rotate (slice_index a j) (slice_index b j) k }
+{
+    let x = a ^ b;
+    (x >> u64x8::splat(k)) | (x << u64x8::splat(64 - k))
+}
+
+// GB in each lane of four vectors.
+#[inline(always)]
+#[tactic(auto, unfolding(crate::specs::Block::gb))]
+fn gb(a: u64x8, b: u64x8, c: u64x8, d: u64x8) -> [u64x8; 4]
+    ensures { (j : ℕ) → j < 8
         → (
           lane_word result 0 j,
           lane_word result 1 j,
           lane_word result 2 j,
           lane_word result 3 j,
         )
-        ≡ gb (lane_word v 0 j) (lane_word v 1 j) (lane_word v 2 j) (lane_word v 3 j) }
-    ensures second { (j : ℕ) → j < 8
-        → (
-          lane_word result 4 j,
-          lane_word result 5 j,
-          lane_word result 6 j,
-          lane_word result 7 j,
-        )
-        ≡ gb (lane_word v 4 j) (lane_word v 5 j) (lane_word v 6 j) (lane_word v 7 j) }
+        ≡ gb (slice_index a j) (slice_index b j) (slice_index c j) (slice_index d j) }
 {
-    let [a0, b0, c0, d0, a1, b1, c1, d1] = v;
-    let [a, b, c, d] = kernel::gb([
-        side_by_side(a0, a1),
-        side_by_side(b0, b1),
-        side_by_side(c0, c1),
-        side_by_side(d0, d1),
-    ]);
-    [
-        left_half(a),
-        left_half(b),
-        left_half(c),
-        left_half(d),
-        right_half(a),
-        right_half(b),
-        right_half(c),
-        right_half(d),
-    ]
+    let a = add_mul(a, b);
+    let d = xor_rotate(d, a, 32);
+    let c = add_mul(c, d);
+    let b = xor_rotate(b, c, 24);
+    let a = add_mul(a, b);
+    let d = xor_rotate(d, a, 16);
+    let c = add_mul(c, d);
+    let b = xor_rotate(b, c, 63);
+    [a, b, c, d]
 }
 
 // P in each lane.
@@ -64,29 +65,33 @@ fn perm(v: [u64x8; 16]) -> [u64x8; 16]
     ensures { (n : ℕ) → n < 8 → lane n result ≡ perm (lane n v) }
 {
     let [
-        a0,
-        a1,
-        a2,
-        a3,
-        b0,
-        b1,
-        b2,
-        b3,
-        c0,
-        c1,
-        c2,
-        c3,
-        d0,
-        d1,
-        d2,
-        d3,
+        v0,
+        v1,
+        v2,
+        v3,
+        v4,
+        v5,
+        v6,
+        v7,
+        v8,
+        v9,
+        v10,
+        v11,
+        v12,
+        v13,
+        v14,
+        v15,
     ] = v;
-    let [a0, b0, c0, d0, a1, b1, c1, d1] = gb_twice([a0, b0, c0, d0, a1, b1, c1, d1]);
-    let [a2, b2, c2, d2, a3, b3, c3, d3] = gb_twice([a2, b2, c2, d2, a3, b3, c3, d3]);
-    let [a0, b1, c2, d3, a1, b2, c3, d0] = gb_twice([a0, b1, c2, d3, a1, b2, c3, d0]);
-    let [a2, b3, c0, d1, a3, b0, c1, d2] = gb_twice([a2, b3, c0, d1, a3, b0, c1, d2]);
+    let [v0, v4, v8, v12] = gb(v0, v4, v8, v12);
+    let [v1, v5, v9, v13] = gb(v1, v5, v9, v13);
+    let [v2, v6, v10, v14] = gb(v2, v6, v10, v14);
+    let [v3, v7, v11, v15] = gb(v3, v7, v11, v15);
+    let [v0, v5, v10, v15] = gb(v0, v5, v10, v15);
+    let [v1, v6, v11, v12] = gb(v1, v6, v11, v12);
+    let [v2, v7, v8, v13] = gb(v2, v7, v8, v13);
+    let [v3, v4, v9, v14] = gb(v3, v4, v9, v14);
     [
-        a0, a1, a2, a3, b0, b1, b2, b3, c0, c1, c2, c3, d0, d1, d2, d3,
+        v0, v1, v2, v3, v4, v5, v6, v7, v8, v9, v10, v11, v12, v13, v14, v15,
     ]
 }
 
@@ -155,15 +160,6 @@ fn transpose(x: [u64x8; 8]) -> [u64x8; 8]
     [c0, c1, c2, c3, c4, c5, c6, c7]
 }
 
-// The eight words from a place on.
-#[inline(always)]
-pub(super) fn load(words: &[u64], at: usize) -> u64x8
-    requires { at + 8 ≤ length words.now }
-    ensures { (k : ℕ) → k < 8 → slice_index result k ≡ slice_index words.now (at + k) }
-{
-    u64x8::from_slice(&words[at..])
-}
-
 // Eight words of the exclusive or of two blocks, from a place on.
 #[inline(always)]
 #[tactic(auto, using(crate::proofs::block_lemmas::LaneLemmas::lane_steps), unfolding(crate::specs::Block::xor_blocks))]
@@ -173,18 +169,6 @@ fn load_xor(x: &[u64; 128], y: &[u64; 128], at: usize) -> u64x8
         ≡ slice_index (xor_blocks x.now y.now) (at + k) }
 {
     load(x, at) ^ load(y, at)
-}
-
-// Writes the exclusive or of two vectors from a place on.
-#[inline(always)]
-pub(super) fn store_xor(words: &mut [u64], at: usize, v: u64x8, r: u64x8)
-    requires { at + 8 ≤ length words.old }
-    ensures here { (k : ℕ) → k < 8 → slice_index words.new (at + k)
-        ≡ bit_xor (slice_index v k) (slice_index r k) }
-    ensures below { (k : ℕ) → k < at → slice_index words.new k ≡ slice_index words.old k }
-    ensures above { (k : ℕ) → at + 8 ≤ k → slice_index words.new k ≡ slice_index words.old k }
-{
-    (v ^ r).copy_to_slice(&mut words[at..]);
 }
 
 // The exclusive or of two blocks, eight words a vector.

@@ -26,7 +26,7 @@ pub enum Error {
     },
     /// The parameter list is outside the grammar, or its parameters are not Argon2's.
     ParamsInvalid,
-    /// The password is too long, or not the one that was hashed.
+    /// The password is too long, or another password was hashed.
     PasswordInvalid,
     /// The salt has a length that a salt can't have.
     SaltInvalid,

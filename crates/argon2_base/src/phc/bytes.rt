@@ -18,40 +18,40 @@ use std::convert::AsSlice;
 use std::marker::Model;
 use std::{fmt, str};
 
-/// From `LOW` to `HIGH` bytes of a PHC text.
+/// From `MIN_LEN` to `MAX_LEN` bytes of a PHC text.
 #[derive(Drop)]
-pub struct TextBytes<const LOW: usize, const HIGH: usize> {
-    pub(super) bytes: ByteList<HIGH>,
+pub struct TextBytes<const MIN_LEN: usize, const MAX_LEN: usize> {
+    pub(super) bytes: ByteList<MAX_LEN>,
 }
 
-impl<const LOW: usize, const HIGH: usize> Model for TextBytes<LOW, HIGH> {
+impl<const MIN_LEN: usize, const MAX_LEN: usize> Model for TextBytes<MIN_LEN, MAX_LEN> {
     ghost Value = { List ℕ };
 
     ghost view = { λ s. list_bytes s.bytes };
 
-    ghost invariant = { λ s. HasBytes LOW HIGH (list_bytes s.bytes) };
+    ghost invariant = { λ s. HasBytes MIN_LEN MAX_LEN (list_bytes s.bytes) };
 }
 
-impl<const LOW: usize, const HIGH: usize> TextBytes<LOW, HIGH> {
+impl<const MIN_LEN: usize, const MAX_LEN: usize> TextBytes<MIN_LEN, MAX_LEN> {
     /// The bytes.
     pub fn as_bytes(&self) -> &[u8]
         ensures value { result.now ≡ self.now }
-        ensures bytes { HasBytes LOW HIGH self.now }
+        ensures bytes { HasBytes MIN_LEN MAX_LEN self.now }
     {
         self.bytes.as_bytes()
     }
 
-    /// How many bytes there are: `LOW` to `HIGH`.
+    /// How many bytes there are: `MIN_LEN` to `MAX_LEN`.
     pub fn len(&self) -> usize
         ensures value { result ≡ length self.now }
-        ensures min { LOW ≤ result }
-        ensures max { result ≤ HIGH }
+        ensures min { MIN_LEN ≤ result }
+        ensures max { result ≤ MAX_LEN }
     {
         self.as_bytes().len()
     }
 }
 
-impl<const LOW: usize, const HIGH: usize> AsSlice<u8> for TextBytes<LOW, HIGH> {
+impl<const MIN_LEN: usize, const MAX_LEN: usize> AsSlice<u8> for TextBytes<MIN_LEN, MAX_LEN> {
     ghost items = { λ s. s };
 
     fn as_slice(&self) -> &[u8] {
@@ -60,18 +60,18 @@ impl<const LOW: usize, const HIGH: usize> AsSlice<u8> for TextBytes<LOW, HIGH> {
 }
 
 /// A copy, which allocates nothing and never fails.
-impl<const LOW: usize, const HIGH: usize> Clone for TextBytes<LOW, HIGH> {
+impl<const MIN_LEN: usize, const MAX_LEN: usize> Clone for TextBytes<MIN_LEN, MAX_LEN> {
     ghost is_clone = { λ s copy. copy ≡ s };
 
     ghost is_infallible = { λ _. ⊤ };
 
-    fn clone(&self) -> std::result::Result<TextBytes<LOW, HIGH>, AllocError> {
+    fn clone(&self) -> std::result::Result<TextBytes<MIN_LEN, MAX_LEN>, AllocError> {
         Ok(TextBytes { bytes: self.bytes })
     }
 }
 
 /// Two are compared by [`are_equal`].
-impl<const LOW: usize, const HIGH: usize> PartialEq for TextBytes<LOW, HIGH> {
+impl<const MIN_LEN: usize, const MAX_LEN: usize> PartialEq for TextBytes<MIN_LEN, MAX_LEN> {
     ghost eq = { pointwise nat_eq };
 
     ghost laws = { partial_equiv_from_equiv nat_list_eq_equiv };
@@ -81,7 +81,7 @@ impl<const LOW: usize, const HIGH: usize> PartialEq for TextBytes<LOW, HIGH> {
     }
 }
 
-impl<const LOW: usize, const HIGH: usize> Eq for TextBytes<LOW, HIGH> {
+impl<const MIN_LEN: usize, const MAX_LEN: usize> Eq for TextBytes<MIN_LEN, MAX_LEN> {
     ghost laws = { nat_list_eq_equiv };
 }
 

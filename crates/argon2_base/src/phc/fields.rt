@@ -71,11 +71,11 @@ pub(super) fn params_field(left: Option<&str>) -> Result<(ParamsString, Option<&
     Ok((params, more))
 }
 
-// The bytes, given in strict Base64, if anything is left, and what is left.
-fn bytes_field<const LOW: usize, const HIGH: usize>(
+// The bytes of the next field, which is their strict Base64, if a field is left; and the fields after it.
+fn bytes_field<const MIN_LEN: usize, const MAX_LEN: usize>(
     left: Option<&str>,
-) -> Result<(Option<TextBytes<LOW, HIGH>>, Option<&str>)>
-    ensures { IsBytesField LOW HIGH (fields_left left.entry) result }
+) -> Result<(Option<TextBytes<MIN_LEN, MAX_LEN>>, Option<&str>)>
+    ensures { IsBytesField MIN_LEN MAX_LEN (fields_left left.entry) result }
 {
     let Some(text) = left else {
         return Ok((None, None));
@@ -84,7 +84,7 @@ fn bytes_field<const LOW: usize, const HIGH: usize>(
     let Ok(bytes) = ByteList::from_b64(field) else {
         return Err(Error::EncodingInvalid);
     };
-    if bytes.as_bytes().len() < LOW {
+    if bytes.as_bytes().len() < MIN_LEN {
         return Err(Error::EncodingInvalid);
     }
     Ok((Some(TextBytes { bytes }), more))

@@ -150,8 +150,8 @@ impl Clone for ParamsString {
     }
 }
 
-/// The list whose text this is, or `ParamsInvalid` if it is no list's. The empty text is the
-/// empty list's.
+/// The list whose text this is, or `ParamsInvalid` if it is the text of no list. The empty text is the
+/// text of the empty list.
 impl FromStr for ParamsString {
     type Err = Error;
 

@@ -1,4 +1,4 @@
-use Rattle.argon2_base.proofs.Imports.{◌≡◌, ◌∙◌, [], ◌∷◌, ap, refl, fours, vector_words}
+use Rattle.argon2_base.proofs.Imports.{◌≡◌, ◌∙◌, [], ◌∷◌, ap, refl, row_in_fours, vector_words}
 use Rattle.argon2_base.proofs.block_lemmas.ChainLemmas.{transposed, fours_of_transposed, vectors_of_transposed}
 use Rattle.argon2_base.proofs.block.kernel.transpose.Goals as goal
 
@@ -13,6 +13,6 @@ returns c =
     ∷ c.exchange_halves-2.result.1 ∷ []
     ≡ transposed x = rw (even.left, even.right, odd.left, odd.right) (rw (low.left, low.right, high.left, high.right) refl) in
     record {
-      to_fours = λ i h. ap (fours i) whole ∙ fours_of_transposed x i h;
+      to_fours = λ i h. ap (row_in_fours i) whole ∙ fours_of_transposed x i h;
       to_vectors = λ i h. ap (vector_words i) whole ∙ vectors_of_transposed x i h;
     }

@@ -1,5 +1,5 @@
 use Rattle.argon2_base.proofs.Imports.{get_or-chunk}
-use Rattle.argon2_base.proofs.block.textbook.load.Goals as goal
+use Rattle.argon2_base.proofs.block.lanes.load.Goals as goal
 
 pub returns : goal.returns
 returns c k h = get_or-chunk c.args.at 8 c.args.words.now k 0 h
