@@ -16,7 +16,7 @@ ROOT = os.path.realpath(os.path.join(os.path.dirname(__file__), "../.."))
 CRATES = os.path.join(ROOT, "crates")
 with open(os.path.join(ROOT, "VERSION"), encoding="utf-8") as version:
     VERSION = version.read().strip()
-# How many seconds a process may take, if its caller says nothing else.
+# How many seconds a process may run, unless its caller gives another limit.
 LIMIT = 300
 
 
@@ -25,17 +25,17 @@ class Wrong(Exception):
 
 
 class Skipped(Exception):
-    """A case can't run here. The error takes what has it run: `install` with Debian's packages, or another reason."""
+    """A case can't run here. The argument states what the case needs: `install` with Debian's packages, or another reason."""
 
 
 def check(holds, *found):
-    """Raises `Wrong` with what was found if this does not hold. Python's options can turn an `assert` off, but not this."""
+    """Raises `Wrong` with `found` if `holds` is false. An option of Python turns off each `assert`, but not this check."""
     if not holds:
         raise Wrong(*found)
 
 
 def need(packages, *commands):
-    """Raises `Skipped` if one of these commands is missing, which Debian's packages have."""
+    """Raises `Skipped` if one of these commands is missing. `packages` names the packages of Debian that contain them."""
     if not all(map(shutil.which, commands)):
         raise Skipped(f"install {packages}")
 
@@ -57,7 +57,7 @@ def kill(process):
 
 
 def finish(process, given=None, limit=LIMIT):
-    """The output and the errors of a process, which gets this input. It is `Wrong` if that takes too long; then it is killed."""
+    """Gives a process its input, and returns its output and errors. It kills a process that takes too long, and raises `Wrong`."""
     try:
         return process.communicate(given, timeout=limit)
     except subprocess.TimeoutExpired:
@@ -68,7 +68,7 @@ def finish(process, given=None, limit=LIMIT):
 
 
 def execute(words, limit=LIMIT, **how):
-    """As `subprocess.run`, with a limit of time."""
+    """Works as `subprocess.run` does, with a limit of time."""
     given, is_checked = how.pop("input", None), how.pop("check", False)
     if given is not None:
         how["stdin"] = subprocess.PIPE
@@ -103,7 +103,7 @@ def end(cases):
 
 
 def skip_all(why):
-    """Ends a script of which nothing can run here. It takes what has the script run."""
+    """Ends a script that can't run any case here. `why` states what the script needs."""
 
     def case():
         raise Skipped(why)
@@ -112,9 +112,10 @@ def skip_all(why):
 
 
 def check_options(name, said):
-    """Requires that a program's man page and its completion have the options of its long help, with the same arguments.
+    """Requires that a program's man page and its completion list the options of its long help, with the same arguments.
 
-    They have them at the heads of paragraphs and in `options=`. No text of the two pages names another option.
+    The man page lists them at the heads of paragraphs, and build/completion lists them in `options=`. The text of the help, the
+    text of the man page and the words that the completion offers contain these options and no others.
     """
     words = f'. "$0"; COMP_WORDS=({name} --) COMP_CWORD=1; _argon2_programs {name}; echo "${{COMPREPLY[*]}}"'
     offered = execute(["bash", "-c", words, f"{ROOT}/build/completion"], capture_output=True, text=True, check=True).stdout
@@ -132,7 +133,7 @@ def check_options(name, said):
 
 
 def newest_source():
-    """When Rattle or a proof of the crates was last changed. A program that runs in its crate's folder may leave files there."""
+    """Returns when a source or a proof of the crates was last changed. Other files don't count, as a program may leave some."""
     newest = 0.0
     for at, folders, names in os.walk(CRATES):
         if "out" in folders:
@@ -143,10 +144,11 @@ def newest_source():
 
 
 def built(crate):
-    """The path of a crate's command, which build/link makes of the object that `rt ci` or `rt run` left in the crate's out/.
+    """Returns the path of a crate's command, which build/link makes from the object that `rt ci` or `rt run` left in out/.
 
-    `rt run` builds the program within an hour if there is none, or if a source is newer. If no object is left of it, or the crate is
-    no command's, the path is the program's own. If ARGON2_PROGRAMS names a folder, it is the file of the command's name there.
+    If the program is missing or older than a source, `rt run` builds it within an hour. If the program has no object or its crate
+    has no man page, the path is the path of the program itself. If ARGON2_PROGRAMS names a folder, the path is the file with the
+    command's name in that folder.
     """
     name = crate.removesuffix("_cli").replace("_", "-")
     if folder := os.environ.get("ARGON2_PROGRAMS"):
@@ -158,7 +160,7 @@ def built(crate):
         ran = execute(["rt", "run"], 3600, cwd=f"{CRATES}/{crate}", **how)
         if "rt: running " not in ran.stdout + ran.stderr:
             sys.exit(f"rt run built no {crate}:\n{ran.stdout}{ran.stderr}")
-        # (rt leaves the file as it is if the newer source is none of this program's)
+        # (`rt` does not write the file again if the newer source does not belong to this program)
         os.utime(program, (begun, begun))
     if not os.path.exists(f"{ROOT}/man/{name}.1") or not os.path.exists(f"{program}.o"):
         return program
@@ -170,14 +172,14 @@ def built(crate):
     return command
 
 
-# A function as a line of a source defines it: how far it is from the margin, its visibility, and its name.
+# Matches the line of a source that defines a function. The groups are its indentation, its visibility (two) and its name.
 FUNCTION = re.compile(r'^( *)(?:(pub)(\([a-z ]+\))? )?(?:(?:unsafe|const|extern "C") )*fn (\w+)', re.MULTILINE)
-# What begins the functions of a type.
+# Matches the header of an `impl` or a trait. The functions of the type follow it.
 IMPL = re.compile(r"^(?:impl|(?:pub )?trait)\b(?:<(?:[^<>]|<[^<>]*>)*>)? ([^{]*)", re.MULTILINE)
 
 
 def module_of(crate, file):
-    """The path of a crate's module by its file: of argon2's `src/params/text.rt` it is `argon2::params::text`."""
+    """Returns the path of the module in a file: `argon2::params::reading` for argon2's `src/params/reading.rt`."""
     parts = file.removeprefix("src/").removesuffix(".rt").split("/")
     return "::".join([crate, *(it for it in parts if it not in ("lib", "main", "mod"))])
 
@@ -194,7 +196,7 @@ class Function:
         self.is_promise = bool(found[2] and not found[3] and re.search(r"^ *ensures ", head, re.MULTILINE))
 
     def has_path(self, path):
-        """Whether a path, as a check prints it, is this function's. That of a type's function has the type's module."""
+        """Returns whether a check prints this path for this function. For a method it prints the module of the type."""
         *modules, last = path.split("::")
         if not self.type:
             return path == f"{self.module}::{self.name}"
@@ -203,7 +205,7 @@ class Function:
 
 
 class WrongBody:
-    """A file guards/CRATE/NAME.edit, or must-fail/NAME.edit of a crate; tests/guards says what its lines are."""
+    """A file guards/CRATE/NAME.edit or crates/CRATE/must-fail/NAME.edit. CONTRIBUTING.md and tests/guards describe its lines."""
 
     def __init__(self, crate, path):
         self.path, self.folder = path, f"{CRATES}/{crate}"
@@ -214,23 +216,23 @@ class WrongBody:
         self.take_refused(self.line("refused: "))
 
     def take_refused(self, words):
-        """What refuses it: these words, of which the first is a function, and the call whose promise it breaks."""
+        """Sets what refuses the body: the words, their first one, which is a function, and the call whose promise it breaks."""
         self.refused, self.function = words, words.split(",")[0]
         self.call = self.line("call: ") or self.function
 
     def line(self, begin):
-        """What is behind a line's first words, or nothing if there is no such line."""
+        """Returns the rest of the first line that begins with `begin`, or '' if no line does."""
         return next((it.removeprefix(begin) for it in self.lines if it.startswith(begin)), "")
 
     def write_refused(self, words):
-        """Writes the line `refused:` anew."""
+        """Writes a new line `refused:` into the file."""
         self.lines = [self.promise, f"refused: {words}", *(it for it in self.lines[1:] if not it.startswith("refused: "))]
         with open(self.path, "w", encoding="utf-8") as it:
             it.write("\n".join([*self.lines, ""]))
         self.take_refused(words)
 
     def changes(self):
-        """Each change: its file, the text that stands there, and the one that takes its place."""
+        """Yields each change: its file, the old text and the new text."""
         for line in self.lines:
             if line.startswith("file: "):
                 file = line.removeprefix("file: ").strip()
@@ -240,7 +242,7 @@ class WrongBody:
                 yield file, old, line.removeprefix("new:").removeprefix(" ")
 
     def functions(self):
-        """The functions that it changes."""
+        """Yields the functions that the body changes."""
         for file, old, _ in self.changes():
             with open(f"{self.folder}/{file}", encoding="utf-8") as it:
                 text = it.read()

@@ -28,8 +28,8 @@ abbrev pub keyid_bytes : ShortBytes 8 → List ℕ
 keyid_bytes = own_bytes
 
 -- the bytes of associated data
-abbrev pub data_bytes : ShortBytes 32 → List ℕ
-data_bytes = own_bytes
+abbrev pub associated_bytes : ShortBytes 32 → List ℕ
+associated_bytes = own_bytes
 
 -- costs, bytes and output length, in place of the fields
 abbrev pub parameters_of : Params → Parameters
@@ -38,7 +38,7 @@ parameters_of params = record {
   t_cost = params.t_cost;
   p_cost = params.p_cost;
   keyid = keyid_bytes params.keyid;
-  associated = data_bytes params.associated;
+  associated = associated_bytes params.associated;
   output_len = params.output_len;
 }
 

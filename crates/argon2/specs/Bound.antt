@@ -37,13 +37,13 @@ IsHashRefusal bound v TooExpensive =
     (parameters : Parameters) × (asked_of v ≡ Ok parameters) × (IsWithin bound parameters → ⊥)
 IsHashRefusal bound v (Refused e) = asked_of v ≡ Err (fault_of e)
 
--- why nothing is read that a value is verified by: it is not admitted, or something is missing or unknown
+-- why the settings, the salt and the hash of a value are not read: it is not admitted, or one is missing or unknown
 abbrev pub IsStoredRefusal : Bound → Phc → BoundError → Type 0
 IsStoredRefusal bound v TooExpensive = IsHashRefusal bound v TooExpensive
 IsStoredRefusal bound v (Refused e) =
     IsHashRefusal bound v (Refused e) ⊎ (AsksWithin bound v × (stored_of v ≡ Err (fault_of e)))
 
--- why a text is not: its value is not, or it is no value's
+-- why a text is not admitted: its value is not, or it is the text of no value
 abbrev pub IsBoundRefusal : Bound → List ℕ → BoundError → Type 0
 IsBoundRefusal bound text error = ((v : Phc) → IsPhcText text v → IsHashRefusal bound v error)
     × (IsText text ⊎ (error ≡ Refused EncodingInvalid))
@@ -58,12 +58,12 @@ IsBoundAnswer bound secret password text r = IsErrAnd r (IsBoundRefusal bound te
     × (answer : Result (Unit {0}) Error) × IsVerifyAnswer secret password v answer
     × (r ≡ result_map_both (λ x. x) Refused answer))
 
--- what it says by Ok
+-- what Ok of it means
 abbrev pub AcceptsWithin : Bound → List ℕ → List ℕ → List ℕ → Type 0
 AcceptsWithin bound secret password text =
     (v : Phc) × IsPhcText text v × AsksWithin bound v × AcceptsBy secret password v
 
--- why it refuses: the text asks for more, or memory was refused, or the text does not accept
+-- what its refusal means: the text asks for more than the bound, memory was refused, or the text does not accept the password
 abbrev pub IsVerifyRefusal : Bound → List ℕ → List ℕ → List ℕ → BoundError → Type 0
 IsVerifyRefusal bound secret password text TooExpensive = IsBoundRefusal bound text TooExpensive
 IsVerifyRefusal bound secret password text (Refused e) =

@@ -1,4 +1,4 @@
--- Hashing by an `Argon2`: when a call is refused, and what it leaves.
+-- Hashing by an `Argon2`: when a call is refused, and what it writes.
 use Rattle.std.specs.Prelude.{◌≡◌, ℕ, ◌+◌, ◌*◌, ◌^◌, ◌<◌, ◌≤◌, ◌⊎◌, List, [], ◌++◌, Option, Some, None, Result, Err, IfErr, length, take, drop, slice_index_or}
 use Rattle.argon2_base.specs.declared.error.Error.{Error}
 use Rattle.argon2_base.specs.declared.error.Error.TheVariants.{OutOfMemory}
@@ -13,46 +13,46 @@ use Rattle.argon2.specs.Steps.{reference_place, step}
 
 -- ---- refusals
 
--- why an output of n bytes is refused
+-- the fault of an output of n bytes
 abbrev pub output_refusal : Argon2 → ℕ → Option Error
 output_refusal argon2 n = first_of (output_faults (own_parameters argon2).output_len n)
 
--- why an output of n bytes, a password, a salt or lent memory of `blocks` blocks is refused
+-- the first fault of an output of n bytes, a password, a salt and `blocks` blocks of lent memory
 abbrev pub refusal_of : Argon2 → ℕ → List ℕ → List ℕ → ℕ → Option Error
 refusal_of argon2 n password salt blocks = first_of (
     output_faults (own_parameters argon2).output_len n
     ++ input_faults (length password) (length salt)
     ++ memory_faults (block_count (context_of argon2)) blocks)
 
--- why filling memory is refused, which has no output
+-- the first fault of filling memory, which writes no output
 abbrev pub fill_refusal : Argon2 → List ℕ → List ℕ → ℕ → Option Error
 fill_refusal argon2 password salt blocks = first_of (input_faults (length password) (length salt)
     ++ memory_faults (block_count (context_of argon2)) blocks)
 
--- what a call that asks for memory before its checks may answer: no memory, or the refusal, or Ok if there is none
+-- the answer of a call that requests memory before its tests: no memory, or the refusal, or Ok if nothing is refused
 abbrev pub AsksFirst : Option Error → Result (Unit {0}) Error → Type 0
 AsksFirst refusal result = (result ≡ Err OutOfMemory) ⊎ (result ≡ answer_unless refusal tt)
 
--- what one that asks after its checks may answer: the refusal, and if there is none Ok or no memory
+-- the answer of a call that requests memory after its tests: the refusal, or if nothing is refused Ok or no memory
 abbrev pub ChecksFirst : Option Error → Result (Unit {0}) Error → Type 0
 ChecksFirst (Some fault) result = result ≡ Err fault
 ChecksFirst None result = IfErr result (λ e. e ≡ OutOfMemory)
 
--- a length that an output may have if none is set
+-- a length that an output may have if the parameters set no length
 abbrev pub IsOutputLength : ℕ → Type 0
 IsOutputLength n = (4 ≤ n) × (n < 2 ^ 32)
 
 -- ---- lent memory
 
--- the blocks that are filled: the first of the memory, lane after lane
+-- the blocks that a hash fills: the first blocks of the memory, lane after lane
 abbrev pub blocks_of : Context → Memory → Memory
 blocks_of ctx memory = take (block_count ctx) memory
 
--- The blocks after them stay.
+-- The blocks after them are unchanged.
 abbrev pub KeepsRest : Context → Memory → Memory → Type 0
 KeepsRest ctx old new = drop (block_count ctx) new ≡ drop (block_count ctx) old
 
--- The blocks of columns 2 and above stay.
+-- The blocks of columns 2 and above are unchanged.
 abbrev pub KeepsOtherColumns : Context → Memory → Memory → Type 0
 KeepsOtherColumns ctx old new =
     (lane column : ℕ) → lane < ctx.p_cost → 2 ≤ column → column < lane_length ctx →
@@ -69,10 +69,10 @@ pub record FillsFront (ctx : Context) (password salt : List ℕ) (n : ℕ) (old 
         AreReferencePlaces ctx (first_block ctx password salt n) places places'
     pub rest : KeepsRest ctx old new
 
--- ---- what a call leaves
+-- ---- what a call writes
 
--- the beginning under a valid context for a tag of n bytes: columns 0 and 1 of each lane, and all other blocks as before;
--- the associated data is that of parameters, at most 32 bytes
+-- A hash for a tag of n bytes is begun: the context is valid and has at most 32 bytes of associated data, columns 0 and 1 of
+-- each lane are made, and all other blocks are unchanged.
 pub record IsBegun (argon2 : Argon2) (password salt : List ℕ) (n : ℕ) (old new : Memory) : Type 0
   where
     pub valid : IsValid (context_of argon2)
@@ -82,21 +82,21 @@ pub record IsBegun (argon2 : Argon2) (password salt : List ℕ) (n : ℕ) (old n
     pub others : KeepsOtherColumns (context_of argon2) old new
     pub rest : KeepsRest (context_of argon2) old new
 
--- the block of a pass, a lane and a column, the rest as before, and the place of its reference
+-- The block of a pass, a lane and a column is made, other blocks are unchanged, and `referred` is the place of its reference.
 pub record IsStepped (ctx : Context) (pass lane column : ℕ) (old new : Memory) (referred : ℕ) : Type 0
   where
     pub step : blocks_of ctx new ≡ step ctx (blocks_of ctx old) pass lane column
     pub rest : KeepsRest ctx old new
     pub place : referred ≡ reference_place ctx (blocks_of ctx old) pass lane column
 
--- the matrix for a tag of n bytes, and the rest as before
+-- The first blocks are the matrix for a tag of n bytes, and the rest is unchanged.
 pub record IsFilled (argon2 : Argon2) (password salt : List ℕ) (n : ℕ) (old new : Memory) : Type 0
   where
     pub matrix : let ctx = context_of argon2 in blocks_of ctx new ≡ matrix_of ctx password salt n
     pub rest : KeepsRest (context_of argon2) old new
 
--- a valid context with at most 32 bytes of associated data, an output that is the tag, the matrix that it was made of, and
--- the rest as before
+-- The context is valid and has at most 32 bytes of associated data, the output is the tag, the first blocks are the matrix, and
+-- the rest is unchanged.
 pub record IsHashed (argon2 : Argon2) (password salt output : List ℕ) (old new : Memory) : Type 0
   where
     pub valid : IsValid (context_of argon2)

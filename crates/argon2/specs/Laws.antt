@@ -1,4 +1,4 @@
--- What the laws of Argon2 are about.
+-- Definitions of the laws of Argon2.
 use Rattle.std.specs.Prelude.{◌≡◌, ℕ, ◌+◌, ◌*◌, ◌<◌, List, [], length, slice_index_or}
 use Rattle.argon2.specs.Rfc9106.{Blocks, Context, FirstColumns, block_count, lane_length, rule}
 use Rattle.argon2.specs.Layout.{Memory}
@@ -14,7 +14,7 @@ IsRecurrence ctx first blocks =
 
 -- ---- the order of steps
 
--- a memory whose first two columns are those of the recurrence
+-- a memory whose columns 0 and 1 have the first blocks of the recurrence
 pub record Begins (ctx : Context) (first : FirstColumns) (memory : Memory) : Type 0 where
   pub size : length memory ≡ block_count ctx
   pub columns : (lane column : ℕ) → lane < ctx.p_cost → column < 2 →
@@ -27,7 +27,7 @@ AreSchedules ctx schedules = (pass slice : ℕ) → pass < ctx.t_cost → slice 
 
 -- ---- independence
 
--- two contexts that differ in version, secret and associated data at most
+-- two contexts that are equal except for version, secret and associated data
 pub record AreAlike (one other : Context) : Type 0 where
   pub algorithm : one.algorithm ≡ other.algorithm
   pub m_cost : one.m_cost ≡ other.m_cost

@@ -1,4 +1,4 @@
--- What a list of parameters stands for, item after item, and how parameters print.
+-- The parameters that a list means, item after item, and the list that parameters print.
 use Rattle.std.specs.Prelude.{◌≡◌, ℕ, List, [], ◌∷◌, ◌++◌, codes, if◌then◌else◌, Option, Some, None, IsNone, Result, Ok, Err, ok_or, unwrap_or, option_and_then, ◌⊎◌, length}
 use Rattle.std.specs.Fmt.{decimal}
 use Rattle.std.specs.Option.{option_or, option_and_then, option_map}
@@ -9,13 +9,13 @@ use Rattle.argon2_base.specs.PhcText.{Pair, IsParamsText, Phc, value_of}
 use Rattle.argon2_base.specs.declared.error.password_hash.Error.{Error as HashError}
 use Rattle.argon2_base.specs.Error.{Fault, as_fault, bad_param, bad_params, outcome_of}
 use Rattle.argon2.specs.Settings.{Parameters, first_fault, cost_parameters}
-use Rattle.argon2.specs.Argon2.{data_bytes, keyid_bytes, parameters_of}
-use Rattle.argon2.specs.declared.params.text.Found.{Found}
+use Rattle.argon2.specs.Argon2.{associated_bytes, keyid_bytes, parameters_of}
+use Rattle.argon2.specs.declared.params.reading.Found.{Found}
 use Rattle.argon2.specs.declared.params.Params.{Params}
 
 -- ---- the parameters of a list
 
--- bytes under a name, if there are any
+-- an item of a name and bytes, or no item if there are no bytes
 abbrev pub bytes_item : List ℕ → List ℕ → List Pair
 bytes_item name [] = []
 bytes_item name (x ∷ b) = (name, strict_base64 (x ∷ b)) ∷ []
@@ -52,7 +52,7 @@ abbrev pub items_fault : List Pair → Option Fault
 items_fault [] = None
 items_fault (p ∷ ps) = option_or (item_fault p) (items_fault ps)
 
--- what is found by name
+-- values by their names
 abbrev pub number_at : List ℕ → List Pair → Option ℕ
 number_at name ps = option_and_then number_of (value_of name ps)
 
@@ -64,7 +64,7 @@ abbrev pub unless_fault : {X : Type 0} → Option Fault → Result X Fault → R
 unless_fault None next = next
 unless_fault (Some fault) next = Err fault
 
--- something read, or else its fault
+-- the value that was read, or the fault
 abbrev pub result_and_then : {X Y : Type 0} → Result X Fault → (X → Result Y Fault) → Result Y Fault
 result_and_then (Ok x) next = next x
 result_and_then (Err fault) next = Err fault
@@ -92,7 +92,7 @@ AreReadAgain m t p keyid associated = (output_len : Option ℕ) → IsNone (firs
 
 -- ---- what has been read of a list, item after item
 
--- what was found under each name
+-- the value that was read under each name
 pub record Items : Type 0 where
   pub m : Option ℕ
   pub t : Option ℕ
@@ -106,10 +106,10 @@ found_of found = record {
   t = found.t;
   p = found.p;
   keyid = option_map keyid_bytes found.keyid;
-  associated = option_map data_bytes found.associated;
+  associated = option_map associated_bytes found.associated;
 }
 
--- what items say
+-- the values of items
 abbrev pub items_of : List Pair → Items
 items_of ps = record {
   m = number_at (codes "m") ps;
@@ -119,7 +119,7 @@ items_of ps = record {
   associated = option_and_then (short_bytes 32) (value_of (codes "data") ps);
 }
 
--- what items say, or under a name that they don't have what was found before
+-- the values of items; a name that no item has keeps the value that was read before
 abbrev pub items_over : List Pair → Items → Items
 items_over ps before = record {
   m = option_or (items_of ps).m before.m;
@@ -129,11 +129,11 @@ items_over ps before = record {
   associated = option_or (items_of ps).associated before.associated;
 }
 
--- one item more, or why it is refused
+-- the values after one more item, or the fault of the item
 abbrev pub item_taken : Pair → Items → Result Items Fault
 item_taken item before = unless_fault (item_fault item) (Ok (items_over (item ∷ []) before))
 
--- what a list says, or why it is refused
+-- the values of a list, or the fault of its first item that is refused
 abbrev pub items_read : List Pair → Result Items Fault
 items_read ps = unless_fault (items_fault ps) (Ok (items_of ps))
 
@@ -143,7 +143,7 @@ items_read ps = unless_fault (items_fault ps) (Ok (items_of ps))
 abbrev pub asked_of : Phc → Result Parameters Fault
 asked_of v = params_of (option_map length v.hash) v.params
 
--- the answer for a text: that of its list, or `ParamsInvalid` if it is no list's
+-- the answer for a text: the answer for its list, or `ParamsInvalid` if it is the text of no list
 abbrev pub IsTextAnswer : List ℕ → Result Params HashError → Type 0
 IsTextAnswer text r =
     ((ps : List Pair) → IsParamsText text ps → outcome_of parameters_of r ≡ params_of None ps)

@@ -98,9 +98,9 @@ Steps event old new = IsLoginStep (login_target old) (store_of old) event (store
 
 -- what an accepted login prints
 abbrev pub accepted_text : Accepted → List ℕ
-accepted_text Current = codes "text is current"
-accepted_text Rehashed = codes "text is renewed"
-accepted_text Kept = codes "text is kept"
+accepted_text Current = codes "hash is current"
+accepted_text Rehashed = codes "hash is renewed"
+accepted_text Kept = codes "hash is kept"
 
 -- what a refusal prints
 abbrev pub login_error_text : LoginError → List ℕ

@@ -8,7 +8,7 @@ use Rattle.argon2_base.specs.declared.error.Error.{Error}
 use Rattle.argon2_base.specs.declared.error.Error.TheVariants.{B64Encoding}
 use Rattle.argon2.specs.declared.params.Params.{Params}
 use Rattle.argon2.specs.Settings.{AreValid, Parameters, default_parameters, first_fault, cost_parameters}
-use Rattle.argon2.specs.Argon2.{data_bytes, keyid_bytes, parameters_of}
+use Rattle.argon2.specs.Argon2.{associated_bytes, keyid_bytes, parameters_of}
 use Rattle.argon2.specs.declared.params.builder.ParamsBuilder.{ParamsBuilder}
 
 -- ---- key identifiers and associated data
@@ -58,7 +58,7 @@ builder_settings builder = record {
   t_cost = builder.t_cost;
   p_cost = builder.p_cost;
   keyid = option_map keyid_bytes builder.keyid;
-  associated = option_map data_bytes builder.associated;
+  associated = option_map associated_bytes builder.associated;
   output_len = builder.output_len;
 }
 

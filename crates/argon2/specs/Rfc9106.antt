@@ -10,8 +10,8 @@ use Rattle.argon2_base.specs.LongHash.{long_hash}
 
 -- ---- 3.1. Inputs
 
--- The inputs except for the password P, the salt S and the length T of the tag, which are given beside them. In the definitions
--- below r is a pass, l or i a lane, j a column, sl a slice.
+-- The inputs except for the password P, the salt S and the length T of the tag, which are separate arguments. Below, `ctx` is a
+-- context.
 pub record Context : Type 0 where
   pub algorithm : ℕ  -- y: 0 is Argon2d, 1 is Argon2i, 2 is Argon2id
   pub version : ℕ  -- v: 19 (0x13), or 16 (0x10) of the older version
@@ -163,10 +163,8 @@ unfoldable pub permitted : Context → ℕ → ℕ → ℕ → ℕ → List (ℕ
 permitted ctx pass lane column other =
     let slice = column / segment_length ctx in
     let finished = finished_segments ctx pass slice in
-    if column % segment_length ctx == 0
-    then take (length finished - 1) finished
-    else finished
-    ++ (if other == lane then columns pass (slice * segment_length ctx) (column - 1) else [])
+    let own = if other == lane then columns pass (slice * segment_length ctx) (column - 1) else [] in
+    if column % segment_length ctx == 0 then take (length finished - 1) finished else (finished ++ own)
 
 -- the index in W by J_1: |W| - 1 - (|W| * (J_1^2 / 2^32)) / 2^32
 unfoldable pub reference_index : ℕ → ℕ → ℕ

@@ -19,8 +19,7 @@ pub record AreLengths (ctx : Context) (slice lane before own after : ℕ) : Type
   pub is_own : own ≡ segment_length ctx
   pub is_after : after ≡ (3 - slice) * slice_length ctx
 
--- The parts have the blocks of a memory, which stand there lane after lane. The other lanes' blocks of the slice are in
--- none of them.
+-- The parts are parts of a memory, whose blocks lie there lane after lane. They leave out the other lanes' blocks of the slice.
 pub record AreParts (ctx : Context) (slice lane : ℕ) (memory before own after : Memory) : Type 0 where
   pub in_before : (k l i : ℕ) → k < slice → l < ctx.p_cost → i < segment_length ctx →
       slice_index_or before ((k * ctx.p_cost + l) * segment_length ctx + i) []
@@ -53,7 +52,7 @@ pub record BeginsLanes (ctx : Context) (width : ℕ) (first : FirstColumns) (old
 abbrev pub BeginsSlices : Context → FirstColumns → Memory → Memory → Type 0
 BeginsSlices ctx first old new = BeginsLanes ctx (segment_length ctx) first old new
 
--- If the parts are those of a memory in which all slices before are made, the segment is made.
+-- If the parts are parts of a memory in which all slices before this slice are made, then the segment is made.
 pub record FillsSegment (ctx : Context) (pass slice lane : ℕ) (before old new after : Memory) : Type 0
   where
     pub size : length new ≡ length old

@@ -1,4 +1,4 @@
--- What passwords are hashed under but for a secret: algorithm, version and parameters.
+-- The settings that passwords are hashed under: algorithm, version and parameters.
 use Rattle.std.specs.Prelude.{◌≡◌, ◌≢◌, ℕ, List, [], ◌∷◌, codes, Option, Result, Ok, Err, ◌==◌, ◌*◌, nat_lt, None, IsNone, unwrap_or}
 use Rattle.std.specs.List.{find}
 use Rattle.std.specs.Str.{bytes_eq}
@@ -42,7 +42,7 @@ version_numbered number = find (λ version. number == version_number version) (V
 
 -- ---- names and numbers that are read
 
--- the variant of this name, or the version of this number; or this refusal of one that none has
+-- the variant of this name, or the version of this number; or the refusal of a name or a number that none of them has
 abbrev pub IsReadBy : {X Y E : Type 0} → (X → Y) → E → Y → Result X E → Type 0
 IsReadBy name fault given (Ok x) = given ≡ name x
 IsReadBy {X} name fault given (Err e) = (e ≡ fault) × ((x : X) → given ≢ name x)
@@ -63,7 +63,7 @@ pub record Parameters : Type 0 where
 abbrev pub max_lanes : ℕ
 max_lanes = 16777215
 
--- why costs and an output length are refused
+-- the first fault of costs and an output length
 abbrev pub first_fault : ℕ → ℕ → ℕ → Option ℕ → Option Error
 first_fault m t p output_len = first_of (
     (nat_lt m 8, MemoryTooLittle)
@@ -72,7 +72,7 @@ first_fault m t p output_len = first_of (
     ∷ (nat_lt (unwrap_or output_len 4) 4, OutputTooShort)
     ∷ (nat_lt max_len (unwrap_or output_len 4), OutputTooLong) ∷ [])
 
--- nothing is refused
+-- parameters without a fault
 abbrev pub AreValid : Parameters → Type 0
 AreValid v = IsNone (first_fault v.m_cost v.t_cost v.p_cost v.output_len)
 

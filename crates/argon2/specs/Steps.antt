@@ -1,5 +1,5 @@
--- The blocks in one memory, lane after lane, where a block overwrites that of the pass before; and
--- the orders of the steps that write them.
+-- The blocks in one memory, lane after lane, where each block overwrites the block of the pass before; and the orders of the
+-- steps that write them.
 use Rattle.argon2.specs.Rfc9106.{Context, lane_length, made_block, reference_of, segment_length, xor_lanes}
 use Rattle.argon2.specs.Layout.{Memory, place_of}
 use Rattle.std.specs.Prelude.{◌≡◌, ℕ, zero, suc, ◌+◌, ◌-◌, ◌*◌, ◌<◌, ◌≤◌, ◌&&◌, List, [], ◌∷◌, ◌==◌, count_by, slice_index_or, slice_set, if◌then◌else◌}
@@ -14,7 +14,7 @@ abbrev pub previous_place : Context → ℕ → ℕ → ℕ
 previous_place ctx lane column =
     lane * lane_length ctx + (if column == 0 then lane_length ctx - 1 else column - 1)
 
--- a block that a step writes: any but those of columns 0 and 1 of pass 0
+-- a block that a step writes: any block except columns 0 and 1 of pass 0
 pub record IsStep (ctx : Context) (pass lane column : ℕ) : Type 0 where
   pub in_lanes : lane < ctx.p_cost
   pub in_columns : column < lane_length ctx
@@ -38,11 +38,11 @@ last_column ctx memory =
 
 -- ---- schedules: the lanes of a slice in the order of their turns
 
--- how many turns a lane has
+-- the number of turns of a lane
 abbrev pub turns : ℕ → List ℕ → ℕ
 turns lane schedule = count_by (λ x. x == lane) schedule
 
--- as many as there are columns to fill: a segment's, without columns 0 and 1 of pass 0
+-- the number of columns that a lane fills in a slice: a segment, without columns 0 and 1 of pass 0
 abbrev pub turn_count : Context → ℕ → ℕ → ℕ
 turn_count ctx pass slice =
     if (pass == 0) && (slice == 0) then segment_length ctx - 2 else segment_length ctx

@@ -31,15 +31,15 @@ abbrev pub stored_value : Stored → StoredValue
 stored_value own =
     record { settings = settings_value own.settings; salt = own.salt.now; hash = own.hash.now }
 
--- the settings that a value shows: parameters with the hash's length, an algorithm and a version, 16 if it has
--- none; or the fault of the first that is not there
+-- the settings that a value shows: parameters with the hash's length, an algorithm, and a version, which is 16 if the value has
+-- none; or the fault of the first that is missing or unknown
 abbrev pub shown_settings : Phc → Result SettingsValue Fault
 shown_settings v = result_and_then (asked_of v) (λ parameters.
     result_and_then (ok_or (algorithm_named v.algorithm) bad_algorithm) (λ algorithm.
     result_and_then (ok_or (version_numbered (unwrap_or v.version 16)) bad_version) (λ version.
     Ok (record { algorithm = algorithm; version = version; parameters = parameters }))))
 
--- a salt, a hash and settings, or the fault of the first that is not there
+-- a salt, a hash and settings, or the fault of the first that is missing or unknown
 abbrev pub stored_of : Phc → Result StoredValue Fault
 stored_of v = result_and_then (ok_or v.salt bad_password) (λ salt.
     result_and_then (ok_or v.hash bad_password) (λ hash.
@@ -76,17 +76,17 @@ abbrev pub is_tag : List ℕ → List ℕ → StoredValue → Bool
 is_tag secret password stored = nat_le (length password) max_len && bytes_eq stored.hash
     (tag_of (context_with stored.settings secret) password stored.salt (length stored.hash))
 
--- what a value comes to: the fault of the first condition that fails, or none
+-- the outcome of verifying a value: Ok, or the fault of the first condition that fails
 abbrev pub verify_outcome : List ℕ → List ℕ → Phc → Result (Unit {0}) Fault
 verify_outcome secret password v =
     result_and_then (stored_of v) (λ stored. if is_tag secret password stored then Ok tt else Err bad_password)
 
--- what verifying a value may answer: that, or no memory if the value can be checked
+-- an answer of verifying a value: this outcome, or no memory if the value can be checked
 abbrev pub IsVerifyAnswer : List ℕ → List ℕ → Phc → Result (Unit {0}) Error → Type 0
 IsVerifyAnswer secret password v r = (outcome_of (λ x. x) r ≡ verify_outcome secret password v)
     ⊎ ((outcome_of (λ x. x) r ≡ Err no_memory) × IsOk (stored_of v))
 
--- what verifying a text may answer: that of its value, or `EncodingInvalid` if it is no value's
+-- an answer of verifying a text: the answer for its value, or `EncodingInvalid` if it is the text of no value
 abbrev pub IsVerifyTextAnswer : List ℕ → List ℕ → List ℕ → Result (Unit {0}) Error → Type 0
 IsVerifyTextAnswer secret password text r =
     ((v : Phc) × IsPhcText text v × IsVerifyAnswer secret password v r)

@@ -18,7 +18,7 @@ use Rattle.argon2.specs.Rfc9106.{tag_of}
 use Rattle.argon2.specs.ListedParameters.{unless_fault, list_of, result_and_then}
 use Rattle.argon2.specs.Refusals.{first_of, max_len}
 
--- the length of a hash: the output length, or 32 if none is set
+-- the length of the hash in a text: the output length, or 32 if none is set
 abbrev pub tag_length : SettingsValue → ℕ
 tag_length settings = unwrap_or settings.parameters.output_len 32
 
@@ -28,7 +28,7 @@ with_tag_length settings = record settings {
   parameters = record settings.parameters { output_len = Some (tag_length settings) };
 }
 
--- why no hash is made: no memory, or a password of more than 4294967295 bytes
+-- the refusals of hashing to a text: no memory, or a password of more than 4294967295 bytes
 abbrev pub IsHashingRefusal : List ℕ → Error → Type 0
 IsHashingRefusal password OutOfMemory = Unit {0}
 IsHashingRefusal password PasswordInvalid = max_len < length password
@@ -88,7 +88,7 @@ hash_outcome target password salt =
     unless_fault (first_of (text_faults (length salt) (tag_length target.settings)
     ++ password_faults (length password))) (Ok (hash_value target password salt))
 
--- what hashing to a text may answer: that, or no memory if salt and hash fit into a text
+-- an answer of hashing to a text: this outcome, or no memory if salt and hash fit into a text
 abbrev pub IsHashAnswer : TargetValue → List ℕ → List ℕ → Result PasswordHash Error → Type 0
 IsHashAnswer target password salt r = (outcome_of phc_of r ≡ hash_outcome target password salt)
     ⊎ ((outcome_of phc_of r ≡ Err no_memory)

@@ -17,7 +17,7 @@ use argon2_base::phc::PasswordHash;
 use std::alloc::Global;
 use std::fmt;
 
-/// The most that one stored text may ask for.
+/// The greatest costs that a stored text may ask for.
 #[derive(Clone, Copy, Debug, PartialEq, Eq)]
 pub struct Bound {
     /// Blocks of 1024 bytes.
@@ -31,9 +31,9 @@ pub struct Bound {
 /// A stored text that asks for no more than a bound.
 #[derive(Debug, Drop)]
 pub struct Admitted {
-    /// What the text says.
+    /// The value of the text.
     pub hash: PasswordHash,
-    /// How many blocks of 1024 bytes are filled to verify it.
+    /// The number of blocks of 1024 bytes that are filled to verify it.
     pub blocks: usize,
 }
 
@@ -43,7 +43,7 @@ impl Bound {
     /// # Errors
     /// The first of these that holds:
     /// - [`BoundError::Refused`] with [`Error::EncodingInvalid`]: the text is outside the grammar.
-    /// - those of [`Bound::admit_hash`].
+    /// - the errors of [`Bound::admit_hash`].
     pub fn admit(&self, text: &str) -> Result<Admitted, BoundError>
         ensures text { IfOk result (λ admitted. IsPhcText text.now (phc_of admitted.hash)) }
         ensures only { IfOk result (λ admitted.
@@ -57,8 +57,8 @@ impl Bound {
         Ok(Admitted { hash, blocks })
     }
 
-    /// How many blocks of 1024 bytes are filled to verify a stored hash that asks for no more than
-    /// this bound. Allocates nothing.
+    /// Checks a stored hash against this bound, and returns the number of blocks of 1024 bytes that are
+    /// filled to verify it. Allocates nothing.
     ///
     /// # Errors
     /// The first of these that holds:
@@ -72,11 +72,12 @@ impl Bound {
         Ok(params.block_count())
     }
 
-    /// What a stored hash that asks for no more than this bound is verified by. Allocates nothing.
+    /// Checks a stored hash against this bound, and reads its settings, its salt and its hash. Allocates
+    /// nothing.
     ///
     /// # Errors
     /// The first of these that holds:
-    /// - those of [`Bound::admit_hash`].
+    /// - the errors of [`Bound::admit_hash`].
     /// - [`BoundError::Refused`] with the error of `Stored::try_from`: there is no salt or no hash, or the
     ///   algorithm or the version does not exist.
     pub fn admit_stored<'hash>(
@@ -93,13 +94,13 @@ impl Bound {
         Ok(Stored::with_settings(hash, settings)?)
     }
 
-    /// Ok if the text asks for no more than this bound, and accepts the password under the
-    /// secret of `argon2`. Memory is requested as by
+    /// Checks a text against this bound, and verifies a password against it under the secret of
+    /// `argon2`. Memory is requested as by
     /// [`verify_password`](crate::password_hash::PasswordVerifier::verify_password).
     ///
     /// # Errors
     /// The first of these that holds:
-    /// - those of [`Bound::admit`], whatever memory there is.
+    /// - the errors of [`Bound::admit`], whatever memory there is.
     /// - [`BoundError::Refused`] with the error of
     ///   [`verify_password`](crate::password_hash::PasswordVerifier::verify_password).
     pub fn verify(
@@ -132,7 +133,7 @@ impl Bound {
             && params.p_cost() <= self.p_cost
     }
 
-    // The parameters of a stored hash that asks for no more than this bound.
+    // Reads the parameters of a stored hash, and checks them against this bound.
     fn admitted_params(&self, hash: &PasswordHash) -> Result<Params, BoundError>
         ensures asked { IfOk result (λ params. (asks : AsksWithin self.now (phc_of hash.now))
             × (asks.parameters ≡ parameters_of params)) }

@@ -1,4 +1,4 @@
-//! Hashing by Argon2 (RFC 9106, section 3), on memory that the caller lends or that is asked for.
+//! Hashing by Argon2 (RFC 9106, section 3), on memory that the caller lends or that a call allocates.
 
 ghost use Rattle.std.specs.Prelude.{◌≡◌, ◌≤◌, ⊤, length};
 ghost use Rattle.argon2.specs.Refusals.{max_len};
@@ -15,7 +15,7 @@ use std::marker::Model;
 mod checks;
 mod fill;
 mod initial;
-mod instance;
+mod inputs;
 mod memory_block;
 mod reference;
 mod segments;
@@ -23,7 +23,7 @@ mod steps;
 mod tag;
 mod watch;
 
-use instance::Instance;
+use inputs::Context;
 use memory_block::MemoryBlock;
 pub use segments::Segment;
 use watch::Watch;
@@ -96,7 +96,7 @@ impl<'key> Argon2<'key> {
     ghost use Rattle.argon2.specs.Layout.{matrix_of};
     ghost use Rattle.argon2.specs.WatchedFilling.{AreReferencePlaces, mixing_calls, place_count};
     ghost use Rattle.argon2.specs.Hashing.{blocks_of, fill_refusal, refusal_of, AsksFirst, ChecksFirst, FillsFront, IsFilled, IsHashed, KeepsRest};
-    ghost use Rattle.argon2.specs.Refusals.{answer_unless, data_refusal, length_refusal};
+    ghost use Rattle.argon2.specs.Refusals.{answer_unless, associated_refusal, length_refusal};
 
     /// Hashing with these parameters and no secret. The key identifier of the parameters changes no
     /// hash, as [`key_identifier`](crate::laws::key_identifier) says; their associated data is hashed.
@@ -207,7 +207,7 @@ impl<'key> Argon2<'key> {
         out: &mut [u8],
         memory: &mut [Words],
     ) -> Result<()>
-        requires data { length associated.now ≤ max_len }
+        requires associated { length associated.now ≤ max_len }
         ensures answer { result ≡ answer_unless (refusal_of self.now (length out.old) pwd.now
             salt.now (length memory.old)) tt }
 
@@ -233,7 +233,7 @@ impl<'key> Argon2<'key> {
     /// # Errors
     /// The first of these that holds; `out` is then as before:
     /// - [`Error::OutOfMemory`]: the request was refused. It is made before any check.
-    /// - those of [`hash_password_into_with_memory`](Argon2::hash_password_into_with_memory) but
+    /// - the errors of [`hash_password_into_with_memory`](Argon2::hash_password_into_with_memory) except
     ///   [`Error::MemoryTooLittle`], in their order.
     pub fn hash_password_into<A: Allocator>(
         &self,
@@ -260,7 +260,7 @@ impl<'key> Argon2<'key> {
     /// # Errors
     /// The first of these that holds; `out` is then as before:
     /// - [`Error::AdTooLong`]: the data is longer.
-    /// - those of [`hash_password_into_with_memory`](Argon2::hash_password_into_with_memory) but
+    /// - the errors of [`hash_password_into_with_memory`](Argon2::hash_password_into_with_memory) except
     ///   [`Error::MemoryTooLittle`], in their order. Then no memory is requested.
     /// - [`Error::OutOfMemory`]: the request was refused.
     pub fn hash_password_into_with_data<A: Allocator>(
@@ -271,7 +271,7 @@ impl<'key> Argon2<'key> {
         salt: &[u8],
         out: &mut [u8],
     ) -> Result<()>
-        ensures answer { ChecksFirst (data_refusal (length associated.now)
+        ensures answer { ChecksFirst (associated_refusal (length associated.now)
             (own_parameters self.now).output_len
             (length out.old) (length pwd.now) (length salt.now)) result }
 
@@ -291,7 +291,7 @@ impl<'key> Argon2<'key> {
 
     /// Writes the tag as [`hash_password_into_with_memory`](Argon2::hash_password_into_with_memory)
     /// does, and into `positions` which block each block refers to. Returns how often two blocks
-    /// were mixed: once for each block but those of columns 0 and 1 of pass 0, and twice for each
+    /// were mixed: once for each block except columns 0 and 1 of pass 0, and twice for each
     /// address block (RFC 9106, section 3.4.1.2). One address block serves 128 columns of a segment.
     ///
     /// `positions` has an entry for each block of each pass. If a lane has q columns, the block of a
@@ -343,7 +343,7 @@ impl<'key> Argon2<'key> {
         ensures same { OnErr result (memory.new ≡ memory.old) }
     {
         self.check_filling(pwd, salt, memory.len())?;
-        self.instance()
+        self.context()
             .fill_blocks(pwd, salt, 0, memory, &mut Watch::nobody());
         Ok(())
     }
@@ -360,7 +360,7 @@ impl<'key> Argon2<'key> {
         salt: &[u8],
         memory: &mut [Words],
     ) -> Result<()>
-        requires data { length associated.now ≤ max_len }
+        requires associated { length associated.now ≤ max_len }
         ensures answer { result
             ≡ answer_unless (fill_refusal self.now pwd.now salt.now (length memory.old)) tt }
         ensures matrix { let context = context_under self.now associated.now in OnOk result
@@ -370,12 +370,12 @@ impl<'key> Argon2<'key> {
         ensures same { OnErr result (memory.new ≡ memory.old) }
     {
         self.check_filling(pwd, salt, memory.len())?;
-        let instance = Instance::new(self, associated);
-        instance.fill_blocks(pwd, salt, 0, memory, &mut Watch::nobody());
+        let context = Context::new(self, associated);
+        context.fill_blocks(pwd, salt, 0, memory, &mut Watch::nobody());
         Ok(())
     }
 
-    // The hash of all calls on lent memory, under this associated data.
+    // Hashes on lent memory, under this associated data: the body of all such calls.
     fn hash<B: MemoryBlock>(
         &self,
         associated: &[u8],
@@ -385,7 +385,7 @@ impl<'key> Argon2<'key> {
         memory: &mut [B],
         watch: &mut Watch,
     ) -> Result<()>
-        requires data { length associated.now ≤ max_len }
+        requires associated { length associated.now ≤ max_len }
         requires count { watch.old.work < 2 ^ 126 }
         ensures answer { result ≡ answer_unless (refusal_of self.now (length out.old) pwd.now
             salt.now (length memory.old)) tt }
@@ -402,15 +402,15 @@ impl<'key> Argon2<'key> {
             × (watch.new ≡ watch.old)) }
     {
         self.check(out.len(), pwd, salt, memory.len())?;
-        let instance = Instance::new(self, associated);
-        instance.fill_blocks(pwd, salt, out.len() as u32, memory, watch);
-        let blocks = &memory[..instance.block_count()];
-        instance.write_tag(instance.lane_length(), blocks, out);
+        let context = Context::new(self, associated);
+        context.fill_blocks(pwd, salt, out.len() as u32, memory, watch);
+        let blocks = &memory[..context.block_count()];
+        context.write_tag(context.lane_length(), blocks, out);
         Ok(())
     }
 
-    // As many blocks as a hash fills, each of zeros, by one request. `resize` makes each at its place, while `vec!`
-    // would copy it there.
+    // Allocates the blocks that a hash fills, by one request, and sets them to zero. `resize` makes each block at its
+    // place, while `vec!` would copy it there.
     fn zeroed_blocks<A: Allocator>(&self, alloc: A) -> Result<Vec<Block, A>>
         ensures zeroed { IfOk result (λ blocks. blocks.items
             ≡ replicate (block_count (context_of self.now)) zero_block) }
@@ -421,7 +421,7 @@ impl<'key> Argon2<'key> {
         Ok(blocks)
     }
 
-    // How many blocks a hash fills.
+    // The number of blocks that a hash fills.
     fn block_count(&self) -> usize
         ensures value { result ≡ block_count (context_of self.now) }
     {
@@ -439,7 +439,7 @@ impl<'key> Argon2<'key> {
         }
     }
 
-    // Hashing under other settings, with the same secret.
+    // An `Argon2` with other settings and the same secret.
     pub(crate) fn with_settings(
         &self,
         algorithm: Algorithm,
@@ -456,15 +456,15 @@ impl<'key> Argon2<'key> {
         }
     }
 
-    // What the hash's blocks are filled by.
-    fn instance(&self) -> Instance<'_>
+    // The context that blocks are filled under.
+    fn context(&self) -> Context<'_>
         ensures value { result ≡ context_of self.now }
         ensures valid { IsValid (context_of self.now) }
         ensures associated { length (context_of self.now).associated ≤ 32 }
         ensures sound { IsSound self.now }
     {
         let params = self.params();
-        Instance::new(self, params.data())
+        Context::new(self, params.data())
     }
 }
 

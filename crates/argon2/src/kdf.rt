@@ -34,8 +34,8 @@ pub trait Kdf {
 /// Marks key derivation that is made for passwords: it is slow enough to make guessing expensive.
 pub trait Pbkdf: Kdf {}
 
-/// The key is the tag. Lengths are taken as by
-/// [`hash_password_into`](Argon2::hash_password_into), and so is the memory.
+/// The key is the tag. Lengths and memory are as for
+/// [`hash_password_into`](Argon2::hash_password_into).
 impl Kdf for Argon2<'_> {
     ghost takes = { λ argon2 password salt key.
         length_refusal (own_parameters argon2).output_len key password salt ≡ None };

@@ -10,12 +10,12 @@
 //!
 //! [`Argon2`] hashes on memory that it allocates, on lent memory, watched, or by single steps.
 //!
-//! - [`params`], [`algorithm`], [`version`]: what a hash is made under.
+//! - [`params`], [`algorithm`], [`version`]: the settings of a hash.
 //! - [`password_hash`]: hashing to texts, reading them, and verifying.
-//! - [`bound`]: the most that a stored text may ask for.
+//! - [`bound`]: the greatest costs that a stored text may ask for.
 //! - [`login`]: a store of names and texts that renews old texts.
 //! - [`kdf`]: key derivation.
-//! - [`laws`]: what is true of the definitions, each law as the contract of a function.
+//! - [`laws`]: properties of the definitions, each as the contract of a function.
 //! - [`blake2b`], [`blake2b_long`], [`block`], [`byte_list`], [`error`], [`phc`]: the parts.
 #![tactic(auto)]
 

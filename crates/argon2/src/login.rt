@@ -1,4 +1,4 @@
-//! A login store that renews old texts: names with PHC texts, and what new texts are made under.
+//! A login store that renews old texts: names with PHC texts, and the target of new texts.
 
 ghost use Rattle.std.specs.Prelude.{◌≡◌, ◌≢◌, ◌⊎◌, Some, IfOk, OnOk, MatchResult};
 ghost use Rattle.std.specs.FinMap.{empty, entries, get, insert};
@@ -27,9 +27,10 @@ mod answers;
 mod runs;
 mod target;
 
-pub use answers::{Accepted, LoggedIn, LoginError};
+use answers::LoggedIn;
+pub use answers::{Accepted, LoginError};
 pub use runs::login_runs;
-pub use target::Target;
+use target::Target;
 
 /// Names with their texts, and a target: the settings and the secret that texts are verified and
 /// made anew under.

@@ -4,10 +4,12 @@ ghost use Rattle.std.specs.Prelude.{◌≡◌, ◌<◌, ◌^◌, IsNone};
 ghost use Rattle.argon2.specs.Settings.{first_fault};
 
 use argon2_base::error::{Error, Result};
+use argon2_base::phc::Output;
 
 mod builder;
+mod printing;
+mod reading;
 mod short_bytes;
-mod text;
 
 pub use builder::ParamsBuilder;
 pub use short_bytes::{AssociatedData, KeyId};
@@ -30,7 +32,7 @@ pub struct Params {
 }
 
 impl Params {
-    ghost use Rattle.std.specs.Prelude.{◌≤◌, ◌*◌};
+    ghost use Rattle.std.specs.Prelude.{◌≤◌, ◌*◌, ◌↔◌, IsTrue, unwrap_or};
     ghost use Rattle.argon2.specs.Params.{AreBytes, IsParamsOf};
     ghost use Rattle.argon2.specs.Settings.{AreValid, cost_parameters};
     ghost use Rattle.argon2.specs.Argon2.{parameters_of};
@@ -118,8 +120,8 @@ impl Params {
         })
     }
 
-    /// The memory cost in blocks of 1024 bytes. As many are used as fill all segments evenly, which
-    /// [`Params::block_count`] says.
+    /// The memory cost in blocks of 1024 bytes. A hash uses [`block_count`](Params::block_count) of
+    /// them, which fill all segments evenly.
     pub fn m_cost(&self) -> u32
         ensures value { result ≡ (parameters_of self.now).m_cost }
         ensures valid { AreValid (parameters_of self.now) }
@@ -165,6 +167,23 @@ impl Params {
         self.output_len
     }
 
+    /// The length of the hash in a PHC text that is made under these parameters, in bytes: the output
+    /// length, or 32 if none is set.
+    pub fn hash_len(&self) -> usize
+        ensures value { result ≡ unwrap_or (parameters_of self.now).output_len 32 }
+        ensures valid { AreValid (parameters_of self.now) }
+    {
+        self.output_len.unwrap_or(Params::DEFAULT_OUTPUT_LEN)
+    }
+
+    /// Whether a PHC text has room for a hash of [`hash_len`](Params::hash_len) bytes: at most 64.
+    pub fn hash_fits_text(&self) -> bool
+        ensures value { IsTrue result ↔ (unwrap_or (parameters_of self.now).output_len 32 ≤ 64) }
+        ensures valid { AreValid (parameters_of self.now) }
+    {
+        self.hash_len() <= Output::MAX_LENGTH
+    }
+
     /// The number of blocks that a hash fills: the greatest multiple of 4 times the number of lanes
     /// that is at most the memory cost (RFC 9106, section 3.2).
     pub fn block_count(&self) -> usize
@@ -184,9 +203,10 @@ impl Params {
         SLICES * self.segment_length()
     }
 
-    // The number of columns of a segment.
+    /// The number of columns of a segment: the memory cost divided by 4 times the number of lanes,
+    /// rounded down (RFC 9106, section 3.4).
     #[tactic(auto, unfolding(crate::specs::Rfc9106::segment_length_for))]
-    pub(crate) fn segment_length(&self) -> u32
+    pub fn segment_length(&self) -> u32
         ensures value { result ≡ segment_length_for (parameters_of self.now).m_cost
             (parameters_of self.now).p_cost }
         ensures lane { 4 * result ≤ (parameters_of self.now).m_cost }
@@ -197,7 +217,7 @@ impl Params {
     }
 }
 
-// Why costs and an output length are refused.
+// The first fault of costs and an output length.
 fn fault(m_cost: u32, t_cost: u32, p_cost: u32, output_len: Option<usize>) -> Option<Error>
     ensures { result ≡ first_fault m_cost t_cost p_cost output_len }
 {

@@ -76,7 +76,7 @@ pub trait CustomizedPasswordHasher<H> {
     /// The first of these that holds:
     /// - [`Error::Algorithm`]: no algorithm has the name `alg_id`.
     /// - [`Error::Version`]: no version has the number `version`.
-    /// - those of [`hash_password_with_salt`](PasswordHasher::hash_password_with_salt).
+    /// - the errors of [`hash_password_with_salt`](PasswordHasher::hash_password_with_salt).
     fn hash_password_customized(
         &self,
         alloc: Global,

@@ -57,7 +57,7 @@ below_differs name other below e =
     let same = rw (e, tied) at below in
     absurd cc
 
--- names above the one that is added stay absent
+-- names above the added name stay absent
 absent_above : (name : List ℕ) (es : List (List ℕ × Phc)) (store after : Store) →
     below_all (slice_cmp nat_cmp) name es ≡ true → AllByRecursion (λ e. get store e.0 ≡ None) es →
     KeepsOthers name store after → AllByRecursion (λ e. get after e.0 ≡ None) es

@@ -16,7 +16,7 @@ input_tag ctx input = tag_of ctx input.password.now input.salt.now 32
 abbrev pub input_refusal : Argon2 → Memory → Input → Option Error
 input_refusal argon2 arena input = refusal_of argon2 32 input.password.now input.salt.now (length arena)
 
--- why the first of some inputs that is refused is
+-- why the first refused input is refused
 abbrev pub first_refusal : Argon2 → Memory → List Input → Option Error
 first_refusal argon2 arena [] = None
 first_refusal argon2 arena (input ∷ inputs) = option_or (input_refusal argon2 arena input) (first_refusal argon2 arena inputs)

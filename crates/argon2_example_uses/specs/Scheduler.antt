@@ -9,6 +9,6 @@ unfoldable pub lanes_by_round : ℕ → ℕ → List ℕ
 lanes_by_round lanes zero = []
 lanes_by_round lanes (suc n) = range_with_len 0 lanes ++ lanes_by_round lanes n
 
--- as many rounds as a slice has columns to fill
+-- all lanes in order, in one round for each column that a lane of the slice fills
 abbrev pub lanes_in_rounds : Context → ℕ → ℕ → List ℕ
 lanes_in_rounds ctx pass slice = lanes_by_round ctx.p_cost (turn_count ctx pass slice)

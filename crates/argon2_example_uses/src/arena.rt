@@ -21,7 +21,7 @@ pub struct Input<'a> {
 /// whatever they were; the blocks after them stay.
 ///
 /// # Errors
-/// Those of [`Argon2::hash_password_into_with_memory`]; the arena is then as before.
+/// The errors of [`Argon2::hash_password_into_with_memory`]; the arena is then as before.
 pub fn hash_in(argon2: &Argon2<'_>, arena: &mut [Block], input: Input<'_>) -> Result<[u8; 32]>
     ensures hashed { IfOk result (λ tag.
         IsHashed argon2.now input.entry.password.now input.entry.salt.now tag arena.old arena.new) }

@@ -22,7 +22,7 @@ use std::alloc::Global;
 /// of `argon2` is to be the store's.
 ///
 /// # Errors
-/// [`LoginError::Refused`] if no text can be made, and else those of [`Login::add`].
+/// [`LoginError::Refused`] if no text can be made, else the errors of [`Login::add`].
 pub fn register<R: Rng>(
     store: &mut Login<'_>,
     argon2: &Argon2<'_>,
@@ -49,8 +49,8 @@ pub fn register<R: Rng>(
     store.add(name, hash.text().as_str())
 }
 
-/// None if the name has not this password, and else what was done with its text: if that is
-/// [`Accepted::Rehashed`], the text is a new one, which [`Login::text_of`] gives to write down.
+/// Returns `None` if the name does not have this password, else what the login did with its text: after
+/// [`Accepted::Rehashed`] the text is a new one, which [`Login::text_of`] returns.
 ///
 /// # Errors
 /// [`LoginError::Refused`] with the reason if the name's text can't be verified.
@@ -82,7 +82,7 @@ pub fn log_in<R: Rng>(
 /// leaves the name with that text.
 ///
 /// # Errors
-/// Those of [`Login::add`], and else those of [`Login::login`].
+/// The errors of [`Login::add`], and then the errors of [`Login::login`].
 pub fn take_over<R: Rng>(
     store: &mut Login<'_>,
     rng: &mut R,

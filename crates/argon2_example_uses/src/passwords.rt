@@ -24,7 +24,7 @@ pub fn stored<R: Rng>(alloc: Global, rng: &mut R, password: &[u8]) -> Result<Pas
 /// Whether a stored text accepts a password.
 ///
 /// # Errors
-/// Those of [`PasswordVerifier::verify_password`] but `PasswordInvalid`, for which the answer is false.
+/// The errors of [`PasswordVerifier::verify_password`], except that the answer is false for `PasswordInvalid`.
 pub fn is_accepted(alloc: Global, password: &[u8], text: &str) -> Result<bool>
     ensures answer { MatchResult result (λ yes. IsTrue yes ↔ Accepts [] password.now text.now)
         (λ e. (e ≡ OutOfMemory) ⊎ (Accepts [] password.now text.now → ⊥)) }

@@ -19,7 +19,7 @@ use argon2::{Argon2, Block, Result};
 /// blocks after them stay.
 ///
 /// # Errors
-/// Those of [`Argon2::hash_password_into_with_memory`]; output and memory are then as before.
+/// The errors of [`Argon2::hash_password_into_with_memory`]; output and memory are then as before.
 pub fn hash_in_rounds(
     argon2: &Argon2<'_>,
     password: &[u8],
@@ -57,7 +57,7 @@ fn fill_slice(argon2: &Argon2<'_>, memory: &mut [Block], pass: u32, slice: u32)
     ensures rest { KeepsRest (context_of argon2.now) memory.old memory.new }
 {
     let params = argon2.params();
-    let segment = params.lane_length() / 4;
+    let segment = params.segment_length();
     let first = if pass == 0 && slice == 0 { 2 } else { 0 };
     for index in first..segment {
         for lane in 0..params.p_cost() {

@@ -34,7 +34,7 @@ module _ (ctx : Context) (sizes : HasSizes ctx) where
   unfolding pass_calls segment_calls address_mixings is_independent address_calls independent_later
   pass_calls-later pass = grind (arith, nat_tests)
 
-  -- the mixings of a pass's four slices are those of its lanes
+  -- the mixings of a pass's four slices are the mixings of its lanes
   slices_calls-4 : (pass : ℕ) → slices_calls ctx pass 4 ≡ ctx.p_cost * pass_calls pass
   unfolding slices_calls pass_calls
   slices_calls-4 pass = grind arith
@@ -61,7 +61,7 @@ module _ (ctx : Context) (sizes : HasSizes ctx) where
       by_cases false true p = omega arith
       by_cases false false p = omega arith
 
-  -- all passes' mixings are those of the formula
+  -- the mixings of all passes are the number that the formula gives
   pub passes_calls-all : passes_calls ctx ctx.t_cost ≡ mixing_calls ctx
   unfolding mixing_calls address_calls
   passes_calls-all =

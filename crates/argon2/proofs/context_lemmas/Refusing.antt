@@ -1,7 +1,7 @@
 -- What a call answers that its table of faults does not refuse.
 use Rattle.argon2.proofs.Imports.{◌≡◌, ℕ, ◌≤◌, false, true, Bool, List, [], ◌∷◌, ◌++◌, Option, None, Result, Ok, length, refl, arith, nat_lt, nat_tests, Argon2, context_of, own_parameters}
 use Rattle.argon2.proofs.Imports.{ChecksFirst, refusal_of, block_count, Error}
-use Rattle.argon2.specs.Refusals.{answer_unless, data_refusal, first_of, input_faults, max_len, memory_faults, output_faults}
+use Rattle.argon2.specs.Refusals.{answer_unless, associated_refusal, first_of, input_faults, max_len, memory_faults, output_faults}
 
 -- an answer says that there is no fault
 unrefused : {A : Type 0} (refusal : Option Error) (x y : A) → Ok x ≡ answer_unless refusal y → refusal ≡ None
@@ -23,7 +23,7 @@ pub checked_first : (argon2 : Argon2) (associated n lent lent' : ℕ) (password 
     (r : Result (Unit {0}) Error)
     → associated ≤ max_len → Ok x ≡ answer_unless (refusal_of argon2 n password salt lent) y → lent' ≡ lent
     → r ≡ answer_unless (refusal_of argon2 n password salt lent') y
-    → ChecksFirst (data_refusal associated (own_parameters argon2).output_len n (length password) (length salt)) r
+    → ChecksFirst (associated_refusal associated (own_parameters argon2).output_len n (length password) (length salt)) r
 checked_first argon2 associated n lent lent' password salt x y r few passed enough is =
     let small : nat_lt max_len associated ≡ false = grind (arith, nat_tests) in
     let none = unrefused (refusal_of argon2 n password salt lent) x y passed in

@@ -7,7 +7,7 @@ use Rattle.argon2.proofs.context_lemmas.InMemory.{place_below}
 use Rattle.argon2.proofs.recurrence.PermittedPlaces.{InSlice}
 use Rattle.argon2.proofs.recurrence.Sources.{made_cong}
 
--- a block that is written leaves those of other lanes or columns
+-- writing a block keeps the blocks of other lanes or columns
 pub set_apart : (q l c m d : ℕ) (memory : Memory) (b : List ℕ) → c < q → d < q → (l ≡ m → c ≡ d → ⊥)
     → slice_index_or (slice_set memory (m * q + d) b) (l * q + c) [] ≡ slice_index_or memory (l * q + c) []
 set_apart q l c m d memory b hc hd ne =

@@ -65,7 +65,7 @@ a_column ctx at st =
     let low = st.in_segment in
     record { above = omega arith; below = omega arith; whole = mul-le-mul_right n (omega arith); one_of_four = few }
 
--- the slice of a column is that of the step
+-- the slice of a column is the step's slice
 pub slice_of_column : (ctx : Context) (at : Step) → at.index < segment_length ctx
     → column_of ctx at / segment_length ctx ≡ at.slice
 slice_of_column ctx at h = div-mul-add at.slice (segment_length ctx) at.index h

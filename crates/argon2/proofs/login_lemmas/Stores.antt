@@ -87,7 +87,7 @@ module _ {Y : Type 0} where
       let same = nat_list_eq_equiv.symm name q in
       grind (arith, get-values_of n q, get-values_of m q, e q))
 
-  -- a name that the tree has, and one that it has not
+  -- a name that the tree has, and a name that the tree lacks
   pub present : (m : BTreeMap (String Y) PasswordHash) (q : List ℕ) → is_some (get_by_text m q) ≡ true →
       IsSome (get (values_of m) q)
   present m q h = let has = get-values_of m q in grind arith

@@ -1,7 +1,7 @@
 -- What is made is in the grammar, is accepted, and shows the settings.
-use Rattle.argon2.proofs.Imports.{◌≡◌, ℕ, ◌^◌, ◌<◌, ◌≤◌, List, length, Option, Some, None, Result, Ok, refl, sym, ap, arith, IsNone, nat_tests, length-take, IsBytes, list_bytes, HasBytes}
-use Rattle.argon2.proofs.Imports.{IsPhc, Pair, Phc, phc_text, Accepts, AcceptsBy, shown_settings, Argon2, context_with, settings_of, Parameters, algorithm_name, first_fault, version_number}
-use Rattle.argon2.proofs.Imports.{tag_of, list_of, params_of, TargetValue, IsTarget, target_of, tag_length, with_tag_length, hash_value, Error, HashError}
+use Rattle.argon2.proofs.Imports.{◌≡◌, ℕ, ◌^◌, ◌<◌, ◌≤◌, List, length, Option, Some, None, Result, Ok, refl, sym, ap, arith, IsNone, nat_tests, IsBytes, HasBytes}
+use Rattle.argon2.proofs.Imports.{IsPhc, Pair, Phc, phc_text, Accepts, AcceptsBy, shown_settings, context_with, Parameters, algorithm_name, first_fault, version_number}
+use Rattle.argon2.proofs.Imports.{tag_of, list_of, params_of, TargetValue, IsTarget, tag_length, with_tag_length, hash_value, Error, HashError}
 use Rattle.argon2.specs.Argon2.{IsSound}
 use Rattle.argon2.proofs.params_lemmas.ListedLemmas.{listed_good}
 use Rattle.argon2.proofs.params_lemmas.Named.{algorithm_named-name, version_numbered-number}

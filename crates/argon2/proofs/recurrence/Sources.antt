@@ -5,7 +5,7 @@ use Rattle.argon2.proofs.Imports.{permitted, previous, reference, reference_inde
 use Rattle.std.proofs.lemmas.List.Elements.{All-map, All-append, All-take, All-get_or, All-nil}
 use Rattle.argon2.proofs.recurrence.PermittedPlaces.{InSlice, in_slice, some_permitted}
 
--- The block of pass, lane and column may be made of that of r, l and c: the newest block of lane l and
+-- The block of pass, lane and column may be made of the block of r, l and c: the newest block of lane l and
 -- column c at that moment, and in another lane none of the slice at hand.
 pub record Reads (ctx : Context) (pass lane column r l c : ℕ) : Type 0 where
   pub in_lanes : l < ctx.p_cost

@@ -8,13 +8,13 @@ ghost use Rattle.argon2.specs.WatchedFilling.{Fills, Watches, columns_before, in
 ghost use Rattle.argon2.specs.SegmentSteps.{column_of, IsStepAt};
 ghost use Rattle.argon2.specs.Steps.{reference_place, step, turn_count, IsStep};
 
-use super::instance::Instance;
+use super::inputs::Context;
 use super::memory_block::{MemoryBlock, xor_of};
 use super::watch::Watch;
 use crate::params::SLICES;
 use crate::{Block, Work};
 
-/// Which block a step writes: that of an index of a segment (RFC 9106, section 3.4).
+/// The block that a step writes, by its index in a segment (RFC 9106, section 3.4).
 #[derive(Clone, Copy)]
 pub(super) struct Step {
     pub(super) pass: u32,
@@ -23,7 +23,7 @@ pub(super) struct Step {
     pub(super) index: u32,
 }
 
-impl<'a> Instance<'a> {
+impl<'a> Context<'a> {
     /// Makes the matrix for an output of `out_len` bytes in the first blocks of the memory.
     #[tactic(auto, unfolding(crate::specs::WatchedFilling::slices_calls, crate::proofs::context_lemmas::Counts::passes_calls))]
     pub(super) fn fill_blocks<B: MemoryBlock>(
@@ -91,7 +91,7 @@ impl<'a> Instance<'a> {
         }
     }
 
-    /// The index of a segment's first step: columns 0 and 1 of pass 0 are no steps.
+    /// The index of the first step in a segment: 2 in slice 0 of pass 0, otherwise 0.
     pub(super) fn first_index(&self, pass: u32, slice: u32) -> u32
         requires { 2 ≤ segment_length self.now }
         ensures turns { result + turn_count self.now pass slice ≡ segment_length self.now }
@@ -127,7 +127,7 @@ impl<'a> Instance<'a> {
         at.slice * self.segment_length() + at.index
     }
 
-    /// Where a watch has the place of a step's reference.
+    /// The index of a step's reference in the list of a watch.
     fn position(&self, at: Step) -> usize
         requires { IsStepAt self.now at }
         ensures { result ≡ position_index self.now at.pass at.lane (column_of self.now at) }

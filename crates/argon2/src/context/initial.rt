@@ -5,7 +5,7 @@ ghost use Rattle.argon2_base.specs.Hasher.{Appends};
 ghost use Rattle.argon2.specs.Rfc9106.{AreShort, block_after, first_block, initial_hash, lane_length, number, with_length};
 ghost use Rattle.argon2.specs.Segments.{BeginsLanes};
 
-use super::instance::Instance;
+use super::inputs::Context;
 use super::memory_block::MemoryBlock;
 use argon2_base::blake2b::Blake2b;
 use argon2_base::blake2b_long::blake2b_long;
@@ -45,7 +45,7 @@ pub(super) fn block_after(hash: &[u8; 64], lane: u32, column: u32) -> Block
     block
 }
 
-impl Instance<'_> {
+impl Context<'_> {
     /// The initial hash for an output of `out_len` bytes.
     pub(super) fn initial_hash(&self, pwd: &[u8], salt: &[u8], out_len: u32) -> [u8; 64]
         requires { AreShort pwd.now salt.now }

@@ -1,4 +1,4 @@
-//! What the memory of a hash is made of: blocks, or the words of blocks.
+//! The blocks that the memory of a hash consists of: each a `Block`, or the words of one.
 
 ghost use Rattle.std.specs.Prelude.{◌≡◌, ℕ, ◌+◌, ◌-◌, ◌<◌, ◌^◌, List, slice_index, if◌then◌else◌};
 ghost use Rattle.argon2_base.specs.Block.{mixed, xor_blocks};
@@ -23,15 +23,15 @@ pub(super) trait MemoryBlock: Copy {
     fn first_word(&self) -> u64
         ensures { result ≡ slice_index (words self.now) 0 };
 
-    /// Writes two mixed over this block, or xors it with them if `xors`, and counts one mixing. `xor` is
-    /// the exclusive or of the two.
+    /// Mixes the two blocks whose exclusive or is `xor`, and counts one mixing. The result replaces this
+    /// block, or is xored with it if `xors`.
     fn put_mixed(&mut self, xor: &Self, xors: bool, work: &mut Work)
         requires { work.old < 2 ^ 128 - 1 }
         ensures block { (x y : List ℕ) → words xor.now ≡ xor_blocks x y
             → words self.new ≡ (if xors then xor_blocks (words self.old) (mixed x y) else mixed x y) }
         ensures counted { work.new ≡ work.old + 1 };
 
-    /// The exclusive or with another.
+    /// The exclusive or with another block.
     fn xor(&mut self, other: &Self)
         ensures { words self.new ≡ xor_blocks (words self.old) (words other.now) };
 }

@@ -1,5 +1,5 @@
-//! Which block a block refers to: a word of the previous block takes it, or one of address blocks,
-//! which depend on no other block (RFC 9106, sections 3.4.1 and 3.4.2).
+//! The block that a block refers to (RFC 9106, sections 3.4.1 and 3.4.2). A word decides on it: the first
+//! word of the previous block, or a word of an address block, which depends on no other block.
 
 ghost use Rattle.std.specs.Prelude.{◌≡◌, ℕ, ◌+◌, ◌-◌, ◌^◌, ◌<◌, ◌≤◌, ◌++◌, length, replicate, slice_index, slice_index_or, if◌then◌else◌};
 ghost use Rattle.argon2.specs.Rfc9106.{Blocks, address_block, is_independent, lane_length, permitted, previous, reference, reference_index, reference_lane, reference_word, segment_length};
@@ -8,7 +8,7 @@ ghost use Rattle.argon2.specs.SegmentSteps.{column_of, IsStepAt};
 ghost use Rattle.argon2.specs.WatchedFilling.{address_mixings};
 
 use super::fill::Step;
-use super::instance::Instance;
+use super::inputs::Context;
 use super::memory_block::MemoryBlock;
 use crate::params::SLICES;
 use crate::{Algorithm, Block, Work};
@@ -27,7 +27,7 @@ fn block_of_words(words: &[u64]) -> Block
     all.block()
 }
 
-/// Which of `count` blocks a word takes.
+/// The index of the block that a word chooses among `count` blocks.
 #[tactic(auto, unfolding(crate::specs::Rfc9106::reference_index))]
 fn reference_index(count: u32, word: u64) -> u32
     requires some { 0 < count }
@@ -40,8 +40,9 @@ fn reference_index(count: u32, word: u64) -> u32
     (count - 1 - ((count * x) >> 32)) as u32
 }
 
-impl<'a> Instance<'a> {
-    /// The word of a step: of its address block, or else `first`, the previous block's first.
+impl<'a> Context<'a> {
+    /// The word of a step: a word of its address block, or else `first`, the first word of the previous
+    /// block.
     #[tactic(auto, using(crate::proofs::context_lemmas::SegmentColumns::references), unfolding(crate::specs::Layout::addresses_at, crate::specs::Rfc9106::address_word, crate::specs::Rfc9106::reference_word))]
     pub(super) fn word(&self, first: u64, addresses: &Option<Block>, at: Step) -> u64
         requires in_segment { at.index < segment_length self.now }
@@ -57,7 +58,7 @@ impl<'a> Instance<'a> {
         }
     }
 
-    /// Replaces the address block of the column before by that of a step, if another begins there.
+    /// Replaces the address block by the next one, if the step is the first that needs it.
     #[tactic(auto, using(crate::proofs::context_lemmas::SegmentColumns::served))]
     pub(super) fn renew(&self, addresses: &mut Option<Block>, at: Step, work: &mut Work)
         requires before { addresses.old
@@ -129,7 +130,7 @@ impl<'a> Instance<'a> {
         }
     }
 
-    /// The lane and the column of the block that a word takes for a step.
+    /// The lane and the column of the block that a word chooses for a step.
     #[tactic(auto, unfolding(crate::specs::Rfc9106::reference))]
     pub(super) fn reference(&self, at: Step, word: u64) -> (u32, u32)
         requires { IsStepAt self.now at }
@@ -146,7 +147,7 @@ impl<'a> Instance<'a> {
         (lane, self.permitted_column(at, index))
     }
 
-    /// The lane that is referred to.
+    /// The lane that a word chooses for a step.
     #[tactic(auto, using(crate::proofs::context_lemmas::SegmentColumns::references), unfolding(crate::specs::Rfc9106::reference_lane))]
     fn reference_lane(&self, at: Step, word: u64) -> u32
         requires { IsStepAt self.now at }
@@ -162,7 +163,7 @@ impl<'a> Instance<'a> {
         }
     }
 
-    /// How many blocks of a lane may be referred to.
+    /// The number of blocks of a lane that a step may refer to.
     #[tactic(auto, using(crate::proofs::context_lemmas::SegmentColumns::references))]
     fn permitted_count(&self, at: Step, other: u32) -> u32
         requires step { IsStepAt self.now at }
@@ -187,7 +188,7 @@ impl<'a> Instance<'a> {
         }
     }
 
-    /// The column of one of them.
+    /// The column of one of these blocks.
     #[tactic(auto, using(crate::proofs::context_lemmas::SegmentColumns::references))]
     fn permitted_column(&self, at: Step, index: u32) -> u32
         requires step { IsStepAt self.now at }

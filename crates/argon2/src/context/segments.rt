@@ -17,7 +17,7 @@ ghost use Rattle.argon2.specs.Refusals.{max_len};
 
 use super::Argon2;
 use super::fill::Step;
-use super::instance::Instance;
+use super::inputs::Context;
 use super::memory_block::xor_of;
 use crate::params::SLICES;
 use crate::{Block, Work};
@@ -46,19 +46,19 @@ impl Argon2<'_> {
         out_len: u32,
         first: &mut [Words],
     )
-        requires data { length associated.now ≤ max_len }
+        requires associated { length associated.now ≤ max_len }
         requires inputs { AreShort pwd.now salt.now }
         requires slice { length first.old ≡ slice_length (context_of self.now) }
         ensures { let context = context_under self.now associated.now in
             BeginsSlices context (first_block context pwd.now salt.now out_len) first.old first.new }
     {
-        let instance = Instance::new(self, associated);
-        instance.begin(pwd, salt, out_len, instance.segment_length(), first);
+        let context = Context::new(self, associated);
+        context.begin(pwd, salt, out_len, context.segment_length(), first);
     }
 
     /// Writes the blocks of a segment into `own`, under this associated data in place of the
     /// parameters' (RFC 9106, section 3.2, steps 5 and 6). `before` has the slices before it, and
-    /// `after` those after it. The data has at most 4294967295 bytes.
+    /// `after` has the slices after it. The data has at most 4294967295 bytes.
     pub fn fill_segment(
         &self,
         associated: &[u8],
@@ -67,14 +67,14 @@ impl Argon2<'_> {
         after: &[Words],
         at: Segment,
     )
-        requires data { length associated.now ≤ max_len }
+        requires associated { length associated.now ≤ max_len }
         requires parts { AreLengths (context_of self.now) at.slice at.lane (length before.now)
             (length own.old) (length after.now) }
         ensures { FillsSegment (context_under self.now associated.now) at.pass at.slice at.lane
             before.now own.old own.new after.now }
     {
-        let instance = Instance::new(self, associated);
-        instance.fill_own(before, own, after, at);
+        let context = Context::new(self, associated);
+        context.fill_own(before, own, after, at);
     }
 
     /// Fills `out`, 1 to 4294967295 bytes, with H' of the exclusive or of the last column's blocks. `last` is the last
@@ -86,14 +86,14 @@ impl Argon2<'_> {
         ensures { out.new
             ≡ long_hash (length out.old) (bytes_of (last_of_slice (context_of self.now) last.now)) }
     {
-        let instance = self.instance();
-        instance.write_tag(instance.segment_length(), last, out);
+        let context = self.context();
+        context.write_tag(context.segment_length(), last, out);
     }
 }
 
-impl<'a> Instance<'a> {
+impl<'a> Context<'a> {
     /// Makes the steps of a lane in a slice. `own` is its segment, `before` has the slices before it,
-    /// and `after` those after it.
+    /// and `after` has the slices after it.
     #[tactic(auto, using(crate::proofs::context_lemmas::SegmentColumns::steps))]
     fn fill_own(&self, before: &[Words], own: &mut [Words], after: &[Words], at: Segment)
         requires { AreLengths self.now at.slice at.lane (length before.now) (length own.old)

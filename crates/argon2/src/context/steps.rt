@@ -35,9 +35,9 @@ impl Argon2<'_> {
         ensures same { OnErr result (memory.new ≡ memory.old) }
     {
         self.check(out_len, pwd, salt, memory.len())?;
-        let instance = self.instance();
-        let blocks = &mut memory[..instance.block_count()];
-        instance.begin(pwd, salt, out_len as u32, instance.lane_length(), blocks);
+        let context = self.context();
+        let blocks = &mut memory[..context.block_count()];
+        context.begin(pwd, salt, out_len as u32, context.lane_length(), blocks);
         Ok(())
     }
 
@@ -58,12 +58,12 @@ impl Argon2<'_> {
         requires room { block_count (context_of self.now) ≤ length memory.old }
         ensures { IsStepped (context_of self.now) pass lane column memory.old memory.new result }
     {
-        let instance = self.instance();
-        let blocks = &mut memory[..instance.block_count()];
+        let context = self.context();
+        let blocks = &mut memory[..context.block_count()];
         let mut work = Work::new();
-        let at = instance.step_of(pass, lane, column);
-        let addresses = instance.addresses(at, &mut work);
-        instance.step(blocks, &addresses, at, &mut work)
+        let at = context.step_of(pass, lane, column);
+        let addresses = context.addresses(at, &mut work);
+        context.step(blocks, &addresses, at, &mut work)
     }
 
     /// Fills `out` with H' of the exclusive or of the last column's blocks, whatever the memory holds
@@ -78,8 +78,8 @@ impl Argon2<'_> {
         ensures { let context = context_of self.now in out.new
             ≡ long_hash (length out.old) (bytes_of (last_column context (blocks_of context memory.now))) }
     {
-        let instance = self.instance();
-        let blocks = &memory[..instance.block_count()];
-        instance.write_tag(instance.lane_length(), blocks, out);
+        let context = self.context();
+        let blocks = &memory[..context.block_count()];
+        context.write_tag(context.lane_length(), blocks, out);
     }
 }

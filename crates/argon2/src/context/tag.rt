@@ -5,12 +5,12 @@ ghost use Rattle.argon2_base.specs.Block.{bytes_of};
 ghost use Rattle.argon2_base.specs.LongHash.{long_hash};
 ghost use Rattle.argon2.specs.Rfc9106.{lane_length, xor_lanes};
 
-use super::instance::Instance;
+use super::inputs::Context;
 use super::memory_block::MemoryBlock;
 use argon2_base::blake2b_long::blake2b_long;
 use argon2_base::block::Block;
 
-impl Instance<'_> {
+impl Context<'_> {
     /// Fills `out` with H' of the exclusive or of the last column's blocks. Each lane has `width` blocks,
     /// the last of its columns.
     #[tactic(auto, using(crate::proofs::context_lemmas::InMemory::lane_fits))]

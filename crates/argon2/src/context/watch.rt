@@ -1,4 +1,4 @@
-//! What is recorded of a fill.
+//! The record of a fill.
 
 ghost use Rattle.std.specs.Prelude.{◌≡◌, ◌+◌, slice_set};
 ghost use Rattle.argon2.specs.WatchedFilling.{Watches};
@@ -14,7 +14,7 @@ pub(super) struct Watch<'a> {
 }
 
 impl<'a> Watch<'a> {
-    /// Nobody watches: no place is kept.
+    /// A watch that keeps no place.
     pub(super) fn nobody() -> Watch<'a>
         ensures { result.work ≡ 0 }
     {

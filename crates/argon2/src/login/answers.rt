@@ -10,11 +10,11 @@ use std::fmt;
 /// What an accepted login did with the name's text.
 #[derive(Clone, Copy, Debug, PartialEq, Eq)]
 pub enum Accepted {
-    /// The text is as the caller's target asks, and stays.
+    /// The text is as the target asks, and stays.
     Current,
-    /// The text is not. One that was made of the password under the target takes its place.
+    /// The text was not. A fresh text, made of the password under the target, takes its place.
     Rehashed,
-    /// The text is not, and stays: no other one could be made or stored.
+    /// The text is not, but stays: no fresh text could be made or stored.
     Kept,
 }
 
@@ -24,9 +24,9 @@ impl Accepted {
         ensures { result.now ≡ accepted_text self.now }
     {
         match self {
-            Accepted::Current => "text is current",
-            Accepted::Rehashed => "text is renewed",
-            Accepted::Kept => "text is kept",
+            Accepted::Current => "hash is current",
+            Accepted::Rehashed => "hash is renewed",
+            Accepted::Kept => "hash is kept",
         }
     }
 }
@@ -39,13 +39,13 @@ impl fmt::Display for Accepted {
     }
 }
 
-/// An accepted login, for a caller that keeps the text itself.
+// An accepted login by a text.
 #[derive(Debug, Drop)]
-pub struct LoggedIn {
-    /// What became of the text.
-    pub accepted: Accepted,
-    /// The text to be stored over the old one: one with [`Accepted::Rehashed`], none otherwise.
-    pub fresh: Option<PasswordHash>,
+pub(super) struct LoggedIn {
+    // What is to become of the text.
+    pub(super) accepted: Accepted,
+    // The fresh text, to be stored in place of the old one. It exists exactly with `Rehashed`.
+    pub(super) fresh: Option<PasswordHash>,
 }
 
 /// Why a call of the login store is refused.

@@ -12,7 +12,7 @@ ghost use Rattle.argon2.specs.Runs.{IsFrom, IsRun, accepted, source};
 ghost use Rattle.argon2.specs.StoredTexts.{Accepts};
 
 /// After every list of calls on a new store: exactly the names that were added have a text, the one
-/// that was added, or the one that the last login that renewed it made; if a name has an
+/// that was added, or the text that the last renewal by a login made; if a name has an
 /// accepted login, its text accepts the password of the last of them; and unless that login
 /// answered [`Kept`](super::Accepted::Kept), the text has the settings of the target.
 pub fn login_runs()

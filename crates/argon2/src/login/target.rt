@@ -1,20 +1,19 @@
-//! What a store verifies its texts under, and renews them by.
+//! The settings and the secret of a store: they verify its texts and renew them.
 
 ghost use Rattle.std.proofs.Props.{props};
 ghost use Rattle.argon2.specs.TextHashing.{target_of, IsTarget};
 
 use super::{Accepted, LoggedIn, LoginError};
 use crate::context::Argon2;
-use crate::params::Params;
 use crate::password_hash::{Error, PasswordHasher, Result, Settings, Stored};
-use argon2_base::phc::{Output, PasswordHash};
+use argon2_base::phc::PasswordHash;
 use rand_core::Rng;
 use std::alloc::Global;
 use std::result::Result as Outcome;
 
-/// Settings and a secret whose hashes fit into texts.
+// Settings and a secret whose hashes fit into texts.
 #[derive(Debug, Drop)]
-pub struct Target<'key> {
+pub(super) struct Target<'key> {
     argon2: Argon2<'key>,
     ghost fits: { IsTarget (target_of argon2) } by { Prim.hlevel props },
 }
@@ -33,22 +32,17 @@ impl<'key> Target<'key> {
     ghost use Rattle.argon2.specs.declared.login.answers.Accepted.TheVariants.{Kept, Rehashed};
     ghost use Rattle.argon2.specs.declared.login.answers.LoginError.TheVariants.{Refused};
 
-    /// The target that hashes as `argon2` does.
-    ///
-    /// # Errors
-    /// [`Error::OutputSize`] if the output length is above 64, the most bytes that the hash of a PHC
-    /// text has.
-    pub fn new(argon2: Argon2<'key>) -> Result<Target<'key>>
+    // The target that hashes as `argon2` does, or `OutputSize` if its hashes do not fit into texts.
+    pub(super) fn new(argon2: Argon2<'key>) -> Result<Target<'key>>
         ensures { IsNewTarget (target_of argon2.entry) result }
     {
-        let len = argon2.params().output_len();
-        if len.unwrap_or(Params::DEFAULT_OUTPUT_LEN) > Output::MAX_LENGTH {
+        if !argon2.params().hash_fits_text() {
             return Err(Error::OutputSize);
         }
         Ok(Target { argon2 })
     }
 
-    // Verifies a password against a text, and writes the fresh text over it, if there is one.
+    // Verifies a password against a text, and writes the fresh text over it if there is one.
     pub(super) fn log_in_text<R: Rng>(
         &self,
         alloc: Global,
@@ -83,16 +77,8 @@ impl<'key> Target<'key> {
         Ok(accepted)
     }
 
-    /// Ok if a text accepts the password under the target's secret. `stored` is what the text shows.
-    /// The memory of the hash is requested from `alloc` in one request, and freed before the call
-    /// returns.
-    ///
-    /// # Errors
-    /// The first of these that holds:
-    /// - [`Error::OutOfMemory`]: the request was refused.
-    /// - [`Error::PasswordInvalid`]: the password is longer than 4294967295 bytes, or the text does
-    ///   not accept it.
-    pub fn verify(&self, alloc: Global, password: &[u8], stored: &Stored<'_>) -> Result<()>
+    // Verifies a password against a text under the target's secret. `stored` is what the text shows.
+    fn verify(&self, alloc: Global, password: &[u8], stored: &Stored<'_>) -> Result<()>
         ensures { (v : Phc) → stored_of v ≡ Ok (stored_value stored.now) → MatchResult result
             (λ _. AcceptsBy (target_value self.now).secret password.now v)
             (λ e. IsVerifyAnswer (target_value self.now).secret password.now v (Err e)) }
@@ -100,15 +86,9 @@ impl<'key> Target<'key> {
         self.argon2.verify_stored(alloc, password, stored)
     }
 
-    /// Verifies a password against a text, as [`verify`](Target::verify), and makes a fresh text of it,
-    /// as [`hash_password`](Target::hash_password), if the text has another algorithm, version,
-    /// parameters or hash length than the target. The fresh text is to be stored over the old one.
-    ///
-    /// Draws 16 bytes if it makes a fresh text, even if that then runs out of memory; otherwise none.
-    ///
-    /// # Errors
-    /// Those of [`verify`](Target::verify).
-    pub fn log_in<R: Rng>(
+    // Verifies a password against a text, and makes a fresh text of it if the text has another algorithm,
+    // version, parameters or hash length than the target.
+    fn log_in<R: Rng>(
         &self,
         alloc: Global,
         rng: &mut R,
@@ -142,15 +122,8 @@ impl<'key> Target<'key> {
         })
     }
 
-    /// A fresh text of a password, with a salt of 16 bytes that are drawn from `rng`. They are drawn
-    /// also if the call is refused. The memory of the hash is requested from `alloc` in one request,
-    /// and freed before the call returns.
-    ///
-    /// # Errors
-    /// The first of these that holds:
-    /// - [`Error::OutOfMemory`]: the request was refused.
-    /// - [`Error::PasswordInvalid`]: the password is longer than 4294967295 bytes.
-    pub fn hash_password<R: Rng>(
+    // Makes a fresh text of a password, with a salt of 16 bytes that are drawn from `rng`.
+    fn hash_password<R: Rng>(
         &self,
         alloc: Global,
         rng: &mut R,
@@ -163,7 +136,7 @@ impl<'key> Target<'key> {
         self.argon2.hash_password(alloc, rng, password)
     }
 
-    // Whether the settings are these, with the length of the hashes.
+    // Whether a text with these settings has the target's settings and hash length.
     fn is_shown_by(&self, shown: &Settings) -> bool
         ensures { IsTrue result ↔ (settings_value shown.now ≡ with_tag_length (settings_of self.now.argon2)) }
     {
@@ -178,8 +151,7 @@ impl<'key> Target<'key> {
         if shown.p_cost() != wanted.p_cost() {
             return false;
         }
-        let len = wanted.output_len().unwrap_or(Params::DEFAULT_OUTPUT_LEN);
-        if shown.output_len() != Some(len) {
+        if shown.output_len() != Some(wanted.hash_len()) {
             return false;
         }
         shown.keyid() == wanted.keyid() && shown.data() == wanted.data()

@@ -1,7 +1,7 @@
 //! A builder of parameters.
 
 ghost use Rattle.std.specs.Prelude.{◌≡◌, Some};
-ghost use Rattle.argon2.specs.Argon2.{IsContextOf, data_bytes, keyid_bytes};
+ghost use Rattle.argon2.specs.Argon2.{IsContextOf, associated_bytes, keyid_bytes};
 ghost use Rattle.argon2.specs.Params.{IsParamsOf, Sets, builder_settings, built, default_settings};
 
 use super::{AssociatedData, KeyId, Params};
@@ -74,7 +74,7 @@ impl ParamsBuilder {
 
     /// Sets the associated data.
     pub fn data(&mut self, data: AssociatedData) -> &mut Self
-        ensures { Sets self.entry result (λ s. record s { associated = Some (data_bytes «data») }) }
+        ensures { Sets self.entry result (λ s. record s { associated = Some (associated_bytes «data») }) }
     {
         self.associated = Some(data);
         self

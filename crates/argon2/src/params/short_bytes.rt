@@ -11,21 +11,21 @@ use std::convert::AsSlice;
 use std::fmt;
 use std::str::FromStr;
 
-/// 0 to `MOST` bytes of parameters. Equality, order and hash are those of the bytes, so a prefix comes
-/// before the longer bytes.
+/// 0 to `MAX_LEN` bytes of parameters. Two are equal, ordered and hashed as their bytes are, so a prefix
+/// comes before the longer bytes.
 #[derive(Clone, Copy, PartialEq, Eq, PartialOrd, Ord, Hash)]
-pub struct ShortBytes<const MOST: usize> {
-    bytes: ByteList<MOST>,
+pub struct ShortBytes<const MAX_LEN: usize> {
+    bytes: ByteList<MAX_LEN>,
     ghost are_bytes: { IsBytes (list_bytes bytes) },
 }
 
-impl<const MOST: usize> ShortBytes<MOST> {
+impl<const MAX_LEN: usize> ShortBytes<MAX_LEN> {
     ghost use Rattle.argon2.specs.Params.{AreBytes, IsOfBytes, IsOfText};
     ghost use Rattle.argon2.specs.Argon2.{own_bytes};
 
-    // These bytes, or this error if they are more than `MOST`.
+    // These bytes, or this error if they are more than `MAX_LEN`.
     fn of_bytes(source: &[u8], fault: Error) -> Result<Self>
-        ensures { IsOfBytes own_bytes MOST fault source.now result }
+        ensures { IsOfBytes own_bytes MAX_LEN fault source.now result }
     {
         match ByteList::new(source) {
             Some(bytes) => Ok(ShortBytes { bytes }),
@@ -37,10 +37,10 @@ impl<const MOST: usize> ShortBytes<MOST> {
     /// last bits zero.
     ///
     /// # Errors
-    /// [`Error::B64Encoding`], of `InvalidLength` if the text is longer than that of `MOST` bytes, else
-    /// of `InvalidEncoding` if it is the Base64 of no bytes.
+    /// [`Error::B64Encoding`], of `InvalidLength` if the text is longer than the Base64 of `MAX_LEN` bytes,
+    /// else of `InvalidEncoding` if it is the Base64 of no bytes.
     pub fn from_b64(text: &str) -> Result<Self>
-        ensures { IsOfText own_bytes (base64_length MOST) text.now result }
+        ensures { IsOfText own_bytes (base64_length MAX_LEN) text.now result }
     {
         let bytes = ByteList::from_b64(text)?;
         Ok(ShortBytes { bytes })
@@ -48,7 +48,7 @@ impl<const MOST: usize> ShortBytes<MOST> {
 
     /// The bytes.
     pub fn as_bytes(&self) -> &[u8]
-        ensures { AreBytes MOST (own_bytes self.now) result.now }
+        ensures { AreBytes MAX_LEN (own_bytes self.now) result.now }
     {
         self.bytes.as_bytes()
     }
@@ -68,21 +68,21 @@ impl<const MOST: usize> ShortBytes<MOST> {
     }
 }
 
-impl<const MOST: usize> Default for ShortBytes<MOST> {
+impl<const MAX_LEN: usize> Default for ShortBytes<MAX_LEN> {
     ghost use Rattle.argon2.specs.Argon2.{own_bytes};
 
     ghost is_default = { λ bytes. own_bytes bytes ≡ [] };
 
     fn default() -> Self {
         let bytes = ByteList {
-            bytes: [0; MOST],
+            bytes: [0; MAX_LEN],
             len: 0,
         };
         ShortBytes { bytes }
     }
 }
 
-impl<const MOST: usize> AsSlice<u8> for ShortBytes<MOST> {
+impl<const MAX_LEN: usize> AsSlice<u8> for ShortBytes<MAX_LEN> {
     ghost use Rattle.argon2.specs.Argon2.{own_bytes};
 
     ghost items = { own_bytes };
@@ -92,13 +92,13 @@ impl<const MOST: usize> AsSlice<u8> for ShortBytes<MOST> {
     }
 }
 
-impl<const MOST: usize> FromStr for ShortBytes<MOST> {
+impl<const MAX_LEN: usize> FromStr for ShortBytes<MAX_LEN> {
     ghost use Rattle.argon2.specs.Params.{IsOfText};
     ghost use Rattle.argon2.specs.Argon2.{own_bytes};
 
     type Err = Error;
 
-    ghost from_str_gives = { IsOfText own_bytes (base64_length MOST) };
+    ghost from_str_gives = { IsOfText own_bytes (base64_length MAX_LEN) };
 
     fn from_str(text: &str) -> Result<Self> {
         ShortBytes::from_b64(text)
@@ -157,7 +157,7 @@ pub type AssociatedData = ShortBytes<32>;
 
 impl AssociatedData {
     ghost use Rattle.argon2.specs.Params.{IsOfBytes};
-    ghost use Rattle.argon2.specs.Argon2.{data_bytes};
+    ghost use Rattle.argon2.specs.Argon2.{associated_bytes};
 
     /// The most bytes of associated data.
     pub const MAX_LEN: usize = 32;
@@ -172,7 +172,7 @@ impl AssociatedData {
 
     /// The associated data of these bytes. More than 32 are [`Error::AdTooLong`].
     pub fn new(source: &[u8]) -> Result<AssociatedData>
-        ensures { IsOfBytes data_bytes 32 AdTooLong source.now result }
+        ensures { IsOfBytes associated_bytes 32 AdTooLong source.now result }
     {
         ShortBytes::of_bytes(source, Error::AdTooLong)
     }
@@ -180,11 +180,11 @@ impl AssociatedData {
 
 impl TryFrom<&[u8]> for AssociatedData {
     ghost use Rattle.argon2.specs.Params.{IsOfBytes};
-    ghost use Rattle.argon2.specs.Argon2.{data_bytes};
+    ghost use Rattle.argon2.specs.Argon2.{associated_bytes};
 
     type Error = Error;
 
-    ghost try_from_gives = { λ source r. IsOfBytes data_bytes 32 AdTooLong source.now r };
+    ghost try_from_gives = { λ source r. IsOfBytes associated_bytes 32 AdTooLong source.now r };
 
     fn try_from(source: &[u8]) -> Result<AssociatedData> {
         AssociatedData::new(source)

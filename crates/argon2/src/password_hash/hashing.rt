@@ -5,7 +5,7 @@ ghost use Rattle.argon2_base.specs.Error.{outcome_of};
 ghost use Rattle.argon2_base.specs.PhcFields.{phc_of};
 ghost use Rattle.argon2.specs.TextHashing.{IsAskedAnswer, IsHashAnswer, IsTagAnswer, algorithm_or_default, settings_or_default, tag_length, target_of, version_or_default};
 ghost use Rattle.argon2.specs.TextHashing.{with_tag_length};
-ghost use Rattle.argon2.specs.Argon2.{IsSound, parameters_of, secret_of, settings_of};
+ghost use Rattle.argon2.specs.Argon2.{parameters_of, secret_of, settings_of};
 ghost use Rattle.argon2.specs.StoredTexts.{AcceptsHash, shown_settings};
 
 use super::{CustomizedPasswordHasher, Error, PasswordHasher, Result};
@@ -18,17 +18,7 @@ use rand_core::Rng;
 use std::alloc::Global;
 
 impl Argon2<'_> {
-    // How many bytes a hash has.
-    fn tag_len(&self) -> usize
-        ensures value { result ≡ tag_length (settings_of self.now) }
-        ensures sound { IsSound self.now }
-    {
-        self.params()
-            .output_len()
-            .unwrap_or(Params::DEFAULT_OUTPUT_LEN)
-    }
-
-    // The tag of a password and a salt as a hash of that many bytes.
+    // The tag of a password and a salt, with the length of the hash in a text.
     pub(super) fn tag(&self, alloc: Global, password: &[u8], salt: &[u8]) -> Result<Output>
         requires fits { tag_length (settings_of self.now) ≤ 64 }
         requires salt_least { 8 ≤ length salt.now }
@@ -36,7 +26,7 @@ impl Argon2<'_> {
         ensures { IsTagAnswer self.now password.now salt.now result }
     {
         let mut buffer = [0u8; Output::MAX_LENGTH];
-        let tag = &mut buffer[..self.tag_len()];
+        let tag = &mut buffer[..self.params().hash_len()];
         self.hash_password_into(alloc, password, salt, tag)?;
         Output::new(tag)
     }
@@ -57,14 +47,15 @@ impl PasswordHasher<PasswordHash> for Argon2<'_> {
         salt: &[u8],
     ) -> Result<PasswordHash> {
         let salt = Salt::new(salt)?;
-        if self.tag_len() > Output::MAX_LENGTH {
+        let params = self.params();
+        if !params.hash_fits_text() {
             return Err(Error::OutputSize);
         }
         let hash = self.tag(alloc, password, salt.as_bytes())?;
         Ok(PasswordHash {
             algorithm: self.algorithm().ident(),
             version: Some(u32::from(self.version())),
-            params: ParamsString::try_from(self.params())?,
+            params: ParamsString::try_from(params)?,
             salt: Some(salt),
             hash: Some(hash),
         })

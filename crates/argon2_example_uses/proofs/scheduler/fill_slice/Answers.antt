@@ -1,7 +1,7 @@
-use Rattle.std.proofs.Common.{◌≡◌, ◌+◌, ◌-◌, ◌*◌, ◌/◌, sym, ap, ◌∙◌, arith}
+use Rattle.std.proofs.Common.{◌≡◌, ◌+◌, ◌-◌, ◌*◌, sym, ap, ◌∙◌, arith}
 use Rattle.argon2.proofs.recurrence.Validity.{sizes-valid}
 use Rattle.argon2.specs.Argon2.{context_of}
-use Rattle.argon2.specs.Rfc9106.{lane_length_for, segment_length}
+use Rattle.argon2.specs.Rfc9106.{segment_length_for, segment_length}
 use Rattle.argon2.specs.Hashing.{blocks_of}
 use Rattle.argon2.specs.Steps.{run, step}
 use Rattle.argon2_example_uses.proofs.Rounds.{left, run_turn, run_begin, run_end, run_no_round, column_below, column_late}
@@ -11,8 +11,8 @@ use Rattle.argon2_example_uses.proofs.scheduler.fill_slice.Goals.{then-pass-eq0+
 pub loop-lane-init : goal.loop-lane-init
 loop-lane-init c =
     let ctx = context_of c.args.argon2.now in
-    let columns = c.lane_length-segment.ensures
-    ∙ ap (λ v. lane_length_for v.m_cost v.p_cost) c.params-params.ensures.value in
+    let columns = c.segment_length-segment.ensures.value
+    ∙ ap (λ v. segment_length_for v.m_cost v.p_cost) c.params-params.ensures.value in
     record {
       turns = sym (run_begin ctx c.args.pass c.args.slice c.loop-index.index (blocks_of ctx c.loop-index.memory) (omega arith))
           ∙ c.loop-index.invariant.rounds;
@@ -25,11 +25,10 @@ step_block-requires-clause-step c =
     let s = segment_length ctx in
     let i = c.loop-index.index in
     let sizes = sizes-valid ctx c.requires.valid in
-    let columns = c.lane_length-segment.ensures
-    ∙ ap (λ v. lane_length_for v.m_cost v.p_cost) c.params-params.ensures.value in
+    let columns = c.segment_length-segment.ensures.value
+    ∙ ap (λ v. segment_length_for v.m_cost v.p_cost) c.params-params.ensures.value in
     let lanes = c.p_cost-lane-end.ensures.value ∙ ap (λ v. v.p_cost) c.params-params.ensures.value in
-    let quarter : c.lane_length-segment.result / 4 ≡ s = omega arith in
-    let product = ap (λ x. c.args.slice * x) quarter in
+    let product = ap (λ x. c.args.slice * x) columns in
     let below = column_below c.args.slice s i (omega arith) (omega arith) in
     record {
       in_lanes = omega arith;
@@ -53,11 +52,10 @@ loop-lane-preserved c =
     let i = c.loop-index.index in
     let lane = c.loop-lane.lane in
     let memory = blocks_of ctx c.loop-lane.memory in
-    let columns = c.lane_length-segment.ensures
-    ∙ ap (λ v. lane_length_for v.m_cost v.p_cost) c.params-params.ensures.value in
+    let columns = c.segment_length-segment.ensures.value
+    ∙ ap (λ v. segment_length_for v.m_cost v.p_cost) c.params-params.ensures.value in
     let lanes = c.p_cost-lane-end.ensures.value ∙ ap (λ v. v.p_cost) c.params-params.ensures.value in
-    let quarter : c.lane_length-segment.result / 4 ≡ s = omega arith in
-    let stepped = c.step_block.ensures.step ∙ ap (λ x. step ctx memory c.args.pass lane (c.args.slice * x + i)) quarter in
+    let stepped = c.step_block.ensures.step ∙ ap (λ x. step ctx memory c.args.pass lane (c.args.slice * x + i)) columns in
     record {
       turns = ap (run ctx c.args.pass c.args.slice (left ctx (lane + 1) (s - (i + 1)))) stepped
           ∙ sym (run_turn ctx c.args.pass c.args.slice lane i memory (omega arith) (omega arith))
@@ -81,7 +79,7 @@ loop-index-preserved c =
 pub returns-clause-blocks : goal.returns-clause-blocks
 returns-clause-blocks c =
     let ctx = context_of c.args.argon2.now in
-    let columns = c.lane_length-segment.ensures
-    ∙ ap (λ v. lane_length_for v.m_cost v.p_cost) c.params-params.ensures.value in
+    let columns = c.segment_length-segment.ensures.value
+    ∙ ap (λ v. segment_length_for v.m_cost v.p_cost) c.params-params.ensures.value in
     sym (run_no_round ctx c.args.pass c.args.slice c.loop-index.index (blocks_of ctx c.loop-index.memory) (omega arith))
     ∙ c.loop-index.invariant.rounds

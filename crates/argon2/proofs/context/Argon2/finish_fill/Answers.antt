@@ -6,5 +6,5 @@ pub returns : goal.returns
 returns c =
     let memory = c.args.memory.now in
     let last = last_of_front (λ (block : List ℕ). block) _ memory _ _ c.block_count.ensures.value c.lane_length.ensures.value in
-    rw (c.instance-instance.ensures.value, map-id memory)
+    rw (c.context-context.ensures.value, map-id memory)
     at (c.write_tag.ensures ∙ ap (λ block. long_hash (length c.args.out.now) (bytes_of block)) last)

@@ -3,4 +3,4 @@ use Rattle.argon2.proofs.context.Argon2.finish_slices.Goals as goal
 
 pub returns : goal.returns
 returns c =
-    rw (c.segment_length.ensures.value, c.instance-instance.ensures.value, map-id c.args.last.now) at c.write_tag.ensures
+    rw (c.segment_length.ensures.value, c.context-context.ensures.value, map-id c.args.last.now) at c.write_tag.ensures

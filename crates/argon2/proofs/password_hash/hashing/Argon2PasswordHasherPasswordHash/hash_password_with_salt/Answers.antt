@@ -1,4 +1,5 @@
-use Rattle.argon2.proofs.Imports.{◌≤◌, ap, arith, ◌∙◌, inl, ident_text, algorithm_name, version_number, parameters_of, settings_of, tag_length, target_of, ◌≡◌, ℕ, List, length, Ok}
+use Rattle.std.specs.Prelude.{unwrap_or}
+use Rattle.argon2.proofs.Imports.{◌≤◌, ap, arith, rules, ◌∙◌, inl, ident_text, algorithm_name, version_number, parameters_of, settings_of, subst, tag_length, target_of, ◌≡◌, ℕ, List, length, Ok}
 use Rattle.argon2.proofs.Imports.{nat_tests, Phc, TargetValue, hash_value, hash_outcome}
 use Rattle.argon2.proofs.password_hash_lemmas.MadeValues.{is_made, is_target, made_accepted, made_shows}
 use Rattle.argon2.proofs.password_hash.hashing.Argon2PasswordHasherPasswordHash.hash_password_with_salt.Goals as goal
@@ -15,13 +16,14 @@ returns c =
     let password = c.args.password.now in
     let salt = c.args.salt.now in
     let is = is_made target password salt (ident_text c.ident.result) c.from.result c.in_ok-try_from.field-0
-    (parameters_of c.params.result.now) c.in_ok-salt.salt c.as_bytes.result.now c.in_ok-hash.hash
+    (parameters_of c.params-params.result.now) c.in_ok-salt.salt c.as_bytes.result.now c.in_ok-hash.hash
     (c.ident.ensures ∙ ap algorithm_name c.algorithm.ensures) (c.from.ensures ∙ ap version_number c.version.ensures)
-    c.in_ok-try_from.ensures.0 c.params.ensures.value c.in_ok-salt.ensures.value c.as_bytes.ensures.value
+    c.in_ok-try_from.ensures.0 c.params-params.ensures.value c.in_ok-salt.ensures.value c.as_bytes.ensures.value
     c.in_ok-hash.ensures.1 in
     let fits : tag_length (settings_of c.args.self.now) ≤ 64 =
-    omega (arith, c.if-tag_len-gt-MAX_LENGTH.false, c.tag_len.ensures.value) in
-    let target_fits = is_target c.args.self.now c.params.ensures.sound fits in
+    subst (λ v. unwrap_or v.output_len 32 ≤ 64) c.params-params.ensures.value
+    ((rw c.if-not-hash_fits_text.false at c.hash_fits_text.ensures.value).0 (search rules)) in
+    let target_fits = is_target c.args.self.now c.params-params.ensures.sound fits in
     let lengths = c.in_ok-salt.ensures.when in
     let bytes = rw c.in_ok-salt.ensures.value at c.as_bytes.ensures.bytes in
     record {

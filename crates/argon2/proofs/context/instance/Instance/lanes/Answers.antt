@@ -1,6 +1,0 @@
-use Rattle.argon2.proofs.Imports.{refl, rules}
-use Rattle.argon2.proofs.recurrence.Validity.{is_size}
-use Rattle.argon2.proofs.context.instance.Instance.lanes.Goals as goal
-
-pub returns : goal.returns
-returns c = is_size (λ ctx. ctx.p_cost) _ _ _ c.self.view_is refl (search rules) (search rules) c.self.invariant.0

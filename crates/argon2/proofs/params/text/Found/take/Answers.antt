@@ -1,5 +1,0 @@
-use Rattle.argon2.proofs.Imports.{arith}
-use Rattle.argon2.proofs.params.text.Found.take.Goals as goal
-
-pub returns-in-t : goal.returns-in-t
-returns-in-t c = grind arith
