@@ -13,11 +13,11 @@ use Rattle.argon2_io.specs.Lines.{AppendsPrefix}
 pub first_are_prefix : (i : ℕ) (text : List ℕ) (a b : Option (List ℕ)) → Appends a b (take i text) → AppendsPrefix a b text
 first_are_prefix i text a b grown = (take i text, drop i text, sym (take-append-drop i text), grown)
 
--- so is all of it
+-- a whole text is a prefix of itself
 pub whole_is_prefix : (text : List ℕ) (a b : Option (List ℕ)) → Appends a b text → AppendsPrefix a b text
 whole_is_prefix text a b grown = (text, [], sym (append-nil text), grown)
 
--- the first bytes, and then the next ones, are the first bytes
+-- the first i bytes and then the next j bytes are the first i + j bytes
 pub first_and_next : (i j : ℕ) (text : List ℕ) (a b c : Option (List ℕ)) → Appends a b (take i text)
     → Appends b c (take j (drop i text)) → Appends a c (take (i + j) text)
 first_and_next i j text a b c first next =

@@ -6,7 +6,7 @@ use Rattle.std.specs.declared.io.ErrorKind.TheVariants.{OutOfMemory}
 use Rattle.argon2_io.specs.declared.failure.Failure.{Failure}
 use Rattle.argon2_io.specs.declared.failure.Failure.TheVariants.{Input, Output, Memory}
 
--- the failure of a read: out of memory is reported as that
+-- the failure of a read: `OutOfMemory` becomes a failure of memory
 abbrev pub IsOfReading : Error → Failure → Type 0
 IsOfReading error (Memory refused) = error_kind error ≡ OutOfMemory
 IsOfReading error (Input same) = (same ≡ error) × (error_kind error ≢ OutOfMemory)

@@ -8,8 +8,8 @@ use std::env::{self, Env};
 use std::io::{ErrorKind, Write};
 use std::str;
 
-// The most bytes of a word that is named.
-const LONGEST: usize = 4096;
+// The most bytes of a word that a message names.
+const MAX_WORD_LEN: usize = 4096;
 
 /// Why a program does not have the words of its command line.
 #[derive(Debug, Drop)]
@@ -50,7 +50,7 @@ pub fn words(rt: &HostRuntime) -> Result<Vec<String>, NoWords> {
 
 // Says which word is the first that is not UTF-8, and what it is up to there.
 fn name_wrong<E: Write>(rt: &HostRuntime, errors: &mut E) {
-    let mut word = [0; LONGEST];
+    let mut word = [0; MAX_WORD_LEN];
     for number in 1..u32::MAX {
         let Ok(len) = rt.arg(number as usize, &mut word) else {
             break;

@@ -1,4 +1,4 @@
-//! Why the programs fail, and what they print then.
+//! Why the programs fail, and what they then print.
 
 ghost use Rattle.std.specs.Prelude.{◌≡◌};
 ghost use Rattle.argon2_io.specs.Failures.{IsOfReading};
@@ -36,7 +36,7 @@ impl Failure {
         3
     }
 
-    /// The failure of a read: out of memory is reported as that.
+    /// The failure of a read: `OutOfMemory` becomes `Memory`.
     pub fn of_reading(error: io::Error) -> Failure
         ensures { IsOfReading error result }
     {

@@ -2,7 +2,7 @@
 use Rattle.std.specs.Prelude.{◌==◌, ℕ, List, [], ◌∷◌, if◌then◌else◌, Bool, Option, Some, None}
 use Rattle.std.specs.Option.{is_some}
 
--- what follows the `!` of a locked text
+-- the text after the `!` of a locked text
 abbrev pub after_lock : List ℕ → Option (List ℕ)
 after_lock [] = None
 after_lock (c ∷ text) = if c == 33 then Some text else None

@@ -1,4 +1,4 @@
-//! How a stored text begins: its lock, what other programs put before it, and the scheme that made it.
+//! How a stored text begins: with a lock, with a prefix of another program, or as a text of another scheme.
 #![tactic(auto)]
 
 mod locks;

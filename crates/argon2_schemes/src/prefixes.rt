@@ -1,12 +1,12 @@
-//! How a stored text begins, and what other programs put before it.
+//! Prefixes of stored texts, and the prefixes that other programs put before a text of Argon2.
 
 ghost use Rattle.std.specs.Prelude.{◌≡◌, map};
 ghost use Rattle.argon2_schemes.specs.Prefixes.{after_any, without_prefix, begins_any, is_named};
 
-// What Django puts before a text of Argon2, which begins with `$`.
+// The word that Django puts before a text of Argon2, which begins with `$`.
 const DJANGO: [&str; 1] = ["argon2"];
 
-// What Dovecot and LDAP servers put before one.
+// The schemes in braces that Dovecot and LDAP servers put before a text of Argon2.
 const SCHEMES: [&str; 10] = [
     "{argon2}",
     "{ARGON2}",
@@ -20,7 +20,7 @@ const SCHEMES: [&str; 10] = [
     "{SHA512-CRYPT}",
 ];
 
-/// The text without what other programs put before it: Django's word before a `$`, or the first scheme in braces.
+/// The text without the prefix of another program: Django's word before a `$`, or the first scheme in braces.
 pub fn without_prefix(text: &[u8]) -> &[u8]
     ensures { result.now ≡ without_prefix text.now }
 {
@@ -32,7 +32,7 @@ pub fn without_prefix(text: &[u8]) -> &[u8]
     }
 }
 
-/// The same of a string.
+/// The same for a string.
 pub fn str_without_prefix(text: &str) -> &str
     ensures { result.now ≡ without_prefix text.now }
 {
@@ -44,7 +44,7 @@ pub fn str_without_prefix(text: &str) -> &str
     }
 }
 
-/// Whether the text begins with one of these.
+/// Whether the text begins with one of these prefixes.
 pub fn begins_any(text: &[u8], prefixes: &[&str]) -> bool
     ensures { result ≡ begins_any (map (λ prefix. prefix.now) prefixes.now) text.now }
 {
@@ -65,7 +65,7 @@ pub fn is_named(text: &[u8], name: &str, separators: &[&str]) -> bool
     rest.is_empty() || begins_any(rest, separators)
 }
 
-/// What follows the first of these that the text begins with, or the text if it begins with none.
+/// The text after the first of these prefixes that it begins with, or the whole text if it begins with none.
 pub fn after_any<'a>(text: &'a [u8], prefixes: &[&str]) -> &'a [u8]
     ensures { result.now ≡ after_any (map (λ prefix. prefix.now) prefixes.now) text.now }
 {
@@ -79,7 +79,7 @@ pub fn after_any<'a>(text: &'a [u8], prefixes: &[&str]) -> &'a [u8]
     rest
 }
 
-// The same of a string.
+// The same for a string.
 fn str_after_any<'a>(text: &'a str, prefixes: &[&str]) -> &'a str
     ensures { result.now ≡ after_any (map (λ prefix. prefix.now) prefixes.now) text.now }
 {
