@@ -1,1 +1,3 @@
-pub mod PolicyLemmas
+mod AdmittingLemmas
+mod DenyingLemmas
+mod VerifyingLemmas

@@ -15,7 +15,7 @@ is_wrong Locked = true
 is_wrong (Refused PasswordInvalid) = true
 is_wrong _ = false
 
--- what an error by a bound is called
+-- the denial that an error of a bound becomes
 abbrev pub of_bound : BoundError → Denial
 of_bound bound.TooExpensive = TooExpensive
 of_bound (bound.Refused e) = Refused e

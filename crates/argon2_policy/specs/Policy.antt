@@ -1,4 +1,4 @@
--- What callers see of a policy, and what its calls make of what a text says. The words that the contracts share are passed on.
+-- What callers see of a policy, and what its calls do with a stored text. The file passes on the words that contracts share.
 use Rattle.std.specs.Prelude.{◌≡◌, ◌≢◌, ◌⊎◌, ℕ, ◌≤◌, ◌<◌, List, [], ◌∷◌, if◌then◌else◌, Option, None, IsSomeAnd, Result, Ok, Err, take}
 use Rattle.std.specs.Option.{is_some, option_copied}
 pub use Rattle.rand_core.specs.Stream.{Stream}
@@ -11,7 +11,7 @@ pub use Rattle.argon2.specs.Bound.{AsksWithin, IsHashRefusal, IsWithin, IsStored
 pub use Rattle.argon2.specs.TextHashing.{IsHashingRefusal, IsFresh, IsTarget, TargetValue, after_salt, drawn_salt, tag_length, target_of}
 pub use Rattle.argon2.specs.Refusals.{max_len}
 pub use Rattle.argon2.specs.Settings.{SettingsValue}
-pub use Rattle.argon2.specs.NamedTexts.{accepted_by, stream_after, value_after}
+pub use Rattle.argon2.specs.NamedTexts.{stream_after, value_after}
 pub use Rattle.argon2.specs.StoredTexts.{AcceptsBy, IsVerifyAnswer, StoredValue, settings_value, shown_settings, stored_of}
 pub use Rattle.argon2.specs.declared.bound.Bound.{Bound}
 pub use Rattle.argon2.specs.declared.bound.BoundError.{BoundError}
@@ -20,18 +20,19 @@ use Rattle.argon2.specs.declared.login.answers.Accepted.{Accepted}
 pub use Rattle.argon2.specs.declared.login.answers.Accepted.TheVariants.{Current, Kept, Rehashed}
 pub use Rattle.argon2_policy.specs.Denials.{Denial, Refused, TooExpensive}
 pub use Rattle.argon2_policy.specs.Hashes.{HashValue, hash_of}
+pub use Rattle.argon2_policy.specs.Renewals.{accepted_by, accepted_of, fresh_of, renewal_of}
 pub use Rattle.argon2_policy.specs.StoredFor.{IsShut, SaysValue}
 use Rattle.argon2_policy.specs.declared.policy.Age.{Age}
 pub use Rattle.argon2_policy.specs.declared.policy.Age.TheVariants.{Outdated, Recent}
 use Rattle.argon2_policy.specs.declared.policy.Policy.{Policy}
 
--- what passwords are hashed and verified under: a target, a secret that was in use before, if one is given, and a bound
+-- what passwords are hashed and verified under: a target, an old secret if one is given, and a bound
 pub record PolicyValue : Type 0 where
   pub target : TargetValue
   pub old_secret : Option (List ℕ)
   pub bound : Bound
 
--- hashes fit into texts, and the target asks for no more than the bound
+-- the target's hashes fit into texts, and the target asks for no more than the bound
 pub record IsPolicy (policy : PolicyValue) : Type 0 where
   pub is_target : IsTarget policy.target
   pub within : IsWithin policy.bound policy.target.settings.parameters
@@ -47,7 +48,7 @@ IsPolicyRefusal target most (bound.Refused e) = (e ≡ OutputSize) × (64 < tag_
 IsPolicyRefusal target most bound.TooExpensive =
     (tag_length target.settings ≤ 64) × ¬ (IsWithin most target.settings.parameters)
 
--- a policy of a target and a bound without an old secret, or the refusal
+-- a policy of a target and a bound, without an old secret, or why there is none
 abbrev pub IsNewPolicy : TargetValue → Bound → Result Policy BoundError → Type 0
 IsNewPolicy target bound (Ok own) = IsPolicy (policy_value own)
     × (policy_value own ≡ record { target = target; old_secret = None; bound = bound })
@@ -66,7 +67,7 @@ pub record AreNoWeaker (target shown : SettingsValue) : Type 0 where
   pub keyid : shown.parameters.keyid ≡ target.parameters.keyid
   pub associated : shown.parameters.associated ≡ target.parameters.associated
 
--- the value shows such settings
+-- the value shows settings that are no weaker than the target
 abbrev pub IsNoWeaker : TargetValue → Phc → Type 0
 IsNoWeaker target v = (shown : SettingsValue) × (shown_settings v ≡ Ok shown) × AreNoWeaker target.settings shown
 
@@ -82,13 +83,13 @@ abbrev pub Admits : PolicyValue → List ℕ → Phc → Type 0
 Admits policy password v = AsksWithin policy.bound v
     × (AcceptsBy policy.target.secret password v ⊎ AcceptsByOld policy password v)
 
--- the value accepts the password, but is weaker than the target, or under the old secret
+-- the value accepts the password, and is weaker than the target, or only the old secret accepts
 abbrev pub IsOutdated : PolicyValue → List ℕ → Phc → Type 0
 IsOutdated policy password v =
     (AcceptsBy policy.target.secret password v × ¬ (IsNoWeaker policy.target v)) ⊎ AcceptsByOld policy password v
 
--- why no secret accepts: the target's does not, for this reason; if that is a wrong password and there is an old
--- secret, that does not, for this reason
+-- Why no secret accepts. Under the target's secret verifying fails with this error, which is not a wrong password unless there is
+-- no old secret. Or that error is a wrong password, and under the old secret verifying fails with this error.
 abbrev pub IsSecretsRefusal : PolicyValue → List ℕ → Phc → Error → Type 0
 IsSecretsRefusal policy password v e = let first = IsVerifyAnswer policy.target.secret password v in
     (first (Err e) × ((e ≢ PasswordInvalid) ⊎ (policy.old_secret ≡ None)))
@@ -101,7 +102,7 @@ IsSecretsRefusal policy password v e = let first = IsVerifyAnswer policy.target.
 abbrev pub AdmitsStored : PolicyValue → List ℕ → Option (List ℕ) → Type 0
 AdmitsStored policy password stored = (v : Phc) × SaysValue stored v × Admits policy password v
 
--- why a value refuses a password: it can't be verified or is above the bound, or no secret accepts
+-- why a value refuses a password: the value can't be verified, or is above the bound, or no secret accepts
 abbrev pub IsDenial : PolicyValue → List ℕ → Phc → Denial → Type 0
 IsDenial policy password v TooExpensive = IsHashRefusal policy.bound v bound.TooExpensive
 IsDenial policy password v (Refused e) = IsStoredRefusal policy.bound v (bound.Refused e)
@@ -128,7 +129,7 @@ abbrev pub AsksFor : List HashValue → Denial → List HashValue → Type 0
 AsksFor wrong TooExpensive hashes = hashes ≡ []
 AsksFor wrong why hashes = (hashes ≡ wrong) ⊎ ((why ≡ Refused OutOfMemory) × ((n : ℕ) × (hashes ≡ take n wrong)))
 
--- those for what is stored, which refuses the password: under the target's settings unless it can be verified
+-- the hashes that are asked for if what is stored refuses the password: unless it can be verified, under the target's settings
 abbrev pub HashesRefused : PolicyValue → List ℕ → Option (List ℕ) → Denial → List HashValue → Type 0
 HashesRefused policy password stored why hashes =
     (IsShut stored why × (hashes ≡ hashes_of_wrong policy policy.target.settings password))
@@ -142,12 +143,12 @@ abbrev pub IsAged : TargetValue → Phc → Age → Type 0
 IsAged target v Recent = IsNoWeaker target v
 IsAged target v Outdated = ¬ (IsNoWeaker target v)
 
--- a value that accepts a password: it stays, or is to be made anew
+-- a value accepts a password, and stays or is to be made anew
 abbrev pub IsFound : PolicyValue → List ℕ → Phc → Age → Type 0
 IsFound policy password v Recent = AcceptsBy policy.target.secret password v × IsNoWeaker policy.target v
 IsFound policy password v Outdated = IsOutdated policy password v
 
--- a login
+-- an accepted login by the value `v`, after which the name has the value `w`
 abbrev pub LogsIn : PolicyValue → List ℕ → List ℕ → Phc → Accepted → Phc → Type 0
 LogsIn policy password drawn v Current w = AsksWithin policy.bound v
     × AcceptsBy policy.target.secret password v × IsNoWeaker policy.target v × (w ≡ v)
@@ -161,8 +162,8 @@ abbrev pub IsMakingRefusal : List ℕ → Denial → Type 0
 IsMakingRefusal password (Refused e) = IsHashingRefusal password e
 IsMakingRefusal password _ = ⊥
 
--- Why a password is not changed, and what the generator has left then: the old one is verified first, and 16 bytes are drawn
--- once it is accepted.
+-- Why a password is not changed, and what the generator has left then. The old password is verified first. 16 bytes are drawn
+-- after it is accepted.
 abbrev pub IsChangeRefusal : PolicyValue → List ℕ → List ℕ → Option (List ℕ) → Stream → Stream → Denial → Type 0
 IsChangeRefusal policy old password stored before after why = (Denies policy old stored why × (after ≡ before))
     ⊎ (AdmitsStored policy old stored × IsMakingRefusal password why × (after ≡ after_salt before))

@@ -8,7 +8,7 @@ use argon2::password_hash::Error;
 use argon2_schemes::Scheme;
 use std::fmt;
 
-/// Why a password is not accepted by what is stored for a name, or a fresh text is not made of it.
+/// Why what is stored for a name does not accept a password, or why no fresh text is made of it.
 ///
 /// Show a person one answer for all that [`is_wrong`](Denial::is_wrong), and the others only if names may be
 /// known. A log may have each.

@@ -1,4 +1,4 @@
-//! Which hashes a call asks for.
+//! The hashes that a call asks for.
 
 ghost use Rattle.std.specs.Prelude.{◌≡◌, ◌<◌, ◌≤◌, ◌∷◌, ◌++◌, [], List, Ok, length};
 ghost use Rattle.argon2_base.specs.PhcText.{Phc};
@@ -19,7 +19,7 @@ struct Hash {
     password_len: usize,
 }
 
-/// The hashes that a call has asked for, at most two, in order. Nothing except what hashes adds to them.
+/// The hashes that a call has asked for, at most two, in order. Only the methods that hash add to them.
 #[derive(Drop)]
 pub(crate) struct Hashes {
     first: Option<Hash>,

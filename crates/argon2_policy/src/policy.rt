@@ -1,36 +1,35 @@
-//! What passwords are hashed and verified under.
+//! A policy, under which a service hashes and verifies passwords.
 
 ghost use Rattle.std.proofs.Props.{props};
-ghost use Rattle.std.specs.Prelude.{◌≡◌, ◌≤◌, length, unwrap_or};
+ghost use Rattle.std.specs.Prelude.{◌≡◌, ◌≤◌, length};
 ghost use Rattle.std.specs.Option.{ForSome};
-ghost use Rattle.argon2.specs.Argon2.{parameters_of, secret_of, settings_of};
+ghost use Rattle.argon2.specs.Argon2.{secret_of, settings_of};
 ghost use Rattle.argon2.specs.Bound.{IsWithin};
 ghost use Rattle.argon2.specs.Refusals.{max_len};
 ghost use Rattle.argon2.specs.TextHashing.{IsTarget, target_of};
 
 use crate::denial::Denial;
 use crate::hashes::Hashes;
+use crate::login::{LoggedIn, Renewal};
 use crate::stored::read;
 use argon2::bound::{Bound, BoundError};
-use argon2::login::{Accepted, LoggedIn};
 use argon2::password_hash::{Error, Settings};
-use argon2::phc::Output;
-use argon2::{Argon2, MAX_SECRET_LEN, Params, PasswordHash, PasswordHasher};
+use argon2::{Argon2, MAX_SECRET_LEN, PasswordHash, PasswordHasher};
 use rand_core::Rng;
 use std::alloc::Global;
 use std::fmt;
 
-/// Whether a text that accepts a password stays.
+/// Whether a stored text that accepts a password stays.
 #[derive(Clone, Copy)]
 pub(crate) enum Age {
     /// The target's secret accepts, and the text is no weaker than the target.
     Recent,
-    /// It is to be made anew.
+    /// The text is to be made anew.
     Outdated,
 }
 
-/// What passwords are hashed and verified under: a target whose hashes fit into texts, a bound on what a
-/// stored text may ask for, which the target is within, and an old secret, if one is given.
+/// What a service hashes and verifies passwords under: a target, whose hashes fit into texts; a bound on the costs
+/// of a stored text, which the target is within; and an old secret, if one is given.
 #[derive(Drop)]
 pub struct Policy<'key> {
     alloc: Global,
@@ -43,10 +42,11 @@ pub struct Policy<'key> {
 }
 
 impl<'key> Policy<'key> {
-    ghost use Rattle.std.specs.Prelude.{◌≡◌, ◌≢◌, ◌⊎◌, ◌↔◌, ◌≤◌, ◌<◌, [], Some, None, Ok, IsSome, IsTrue, IfSome, IfOk, IfErr, MatchOption, MatchResult, option_copied};
+    ghost use Rattle.std.specs.Prelude.{◌≡◌, ◌≢◌, ◌⊎◌, ◌↔◌, ◌≤◌, ◌<◌, [], Some, None, Ok, IsTrue, IfSome, IfOk, IfErr, MatchOption, MatchResult, option_copied};
     ghost use Rattle.argon2_base.specs.declared.error.Error.TheVariants.{SecretTooLong};
     ghost use Rattle.argon2_policy.specs.Policy.{AdmitsStored, AreNoWeaker, AsksFor, AsksWithin, HashesRefused, IsChangeRefusal, Denies, IsHashingRefusal, IsAged, IsDenial, IsFound, IsFresh, IsNewPolicy, IsNoWeaker, LogsIn, Phc};
-    ghost use Rattle.argon2_policy.specs.Policy.{OutOfMemory, Refused, Rehashed, SaysValue, accepted_by, after_salt, drawn_salt, hashes_of_wrong, phc_of, policy_value, settings_or_target, settings_value, shown_settings, stored_of, stream_after, text_of, value_after};
+    ghost use Rattle.argon2_policy.specs.Renewals.{accepted_by, accepted_of, fresh_of, renewal_of};
+    ghost use Rattle.argon2_policy.specs.Policy.{OutOfMemory, Refused, SaysValue, after_salt, drawn_salt, hashes_of_wrong, phc_of, policy_value, settings_or_target, settings_value, shown_settings, stored_of, stream_after, text_of, value_after};
 
     /// A policy of a target and a bound, without an old secret. Its calls allocate from `alloc`; this one
     /// allocates nothing.
@@ -63,8 +63,7 @@ impl<'key> Policy<'key> {
     ) -> Result<Policy<'key>, BoundError>
         ensures { IsNewPolicy (target_of target.entry) bound result }
     {
-        let len = target.params().output_len();
-        if len.unwrap_or(Params::DEFAULT_OUTPUT_LEN) > Output::MAX_LENGTH {
+        if !target.params().hash_fits_text() {
             return Err(BoundError::Refused(Error::OutputSize));
         }
         if !bound.allows(target.params()) {
@@ -127,14 +126,14 @@ impl<'key> Policy<'key> {
     /// target's secret, and if that refuses it, under the old one. `stored` is `None` if the name is unknown. A text
     /// stays if the target's secret accepts the password and the text is no weaker than the target: it has the target's
     /// algorithm, version, key identifier and associated data, no lower cost and no shorter hash. For any other text
-    /// that is accepted a fresh one is made, as by [`hash_password`](Policy::hash_password). The caller stores it over
-    /// the old one.
+    /// that is accepted a fresh one is made, as by [`hash_password`](Policy::hash_password). The caller stores the fresh
+    /// text in the place of the old one, which the [`Renewal`] has too.
     ///
     /// A password that is refused is hashed once, and once more under an old secret: with the costs of the text if that can be
     /// verified, and else with the target's. So a refusal takes about as long if the name is unknown as with a text of the
     /// target's costs. No contract says so: time is not proved. A text above the bound is refused without a hash.
     ///
-    /// Nothing is drawn but for a fresh text; then 16 bytes are, even if there is no memory for it.
+    /// Nothing is drawn except for a fresh text; then 16 bytes are drawn, even if there is no memory for the text.
     ///
     /// # Errors
     /// The first of these that holds:
@@ -142,85 +141,82 @@ impl<'key> Policy<'key> {
     /// - [`Denial::Locked`]: the text is locked.
     /// - [`Denial::OtherScheme`]: the text begins as one of another scheme.
     /// - [`Denial::Refused`] with [`Error::EncodingInvalid`]: the text is outside the grammar of PHC texts.
-    /// - those of [`Bound::admit_stored`], whatever memory there is.
+    /// - the errors of [`Bound::admit_stored`], whatever memory there is.
     /// - [`Denial::Refused`] with [`Error::OutOfMemory`] or [`Error::PasswordInvalid`]: the text does not accept the
     ///   password under the target's secret, nor under the old one.
-    pub fn log_in<R: Rng>(
+    pub fn log_in<'text, R: Rng>(
         &self,
         rng: &mut R,
-        stored: Option<&str>,
+        stored: Option<&'text str>,
         password: &[u8],
-    ) -> Result<LoggedIn, Denial>
+    ) -> Result<LoggedIn<'text>, Denial>
         ensures step { let text = option_copied stored.entry in MatchResult result
             (λ done. (v : Phc) × SaysValue text v × LogsIn (policy_value self.now) password.now
-            (drawn_salt (R.stream rng.old)) v done.accepted (value_after v done.fresh))
+            (drawn_salt (R.stream rng.old)) v (accepted_of done) (value_after v (fresh_of done)))
             (Denies (policy_value self.now) password.now text) }
-        ensures fresh { IfOk result (λ done. IsSome done.fresh ↔ (done.accepted ≡ Rehashed)) }
+        ensures old { IfOk result (λ done. IfSome (renewal_of done) (λ renewal.
+            option_copied stored.entry ≡ Some renewal.old.now)) }
         ensures accepted { let text = option_copied stored.entry in MatchResult result
             (λ done. AdmitsStored (policy_value self.now) password.now text
-            × IfSome done.fresh (λ fresh.
+            × IfSome (fresh_of done) (λ fresh.
             AdmitsStored (policy_value self.now) password.now (Some (text_of fresh))))
             (λ e. (e ≡ Refused OutOfMemory)
             ⊎ ¬ (AdmitsStored (policy_value self.now) password.now text)) }
-        ensures current { IfOk result (λ done. IfSome done.fresh (λ fresh.
+        ensures current { IfOk result (λ done. IfSome (fresh_of done) (λ fresh.
             IsNoWeaker (policy_value self.now).target (phc_of fresh))) }
         ensures drawn { R.stream rng.new ≡ stream_after (accepted_by result) (R.stream rng.old) }
     {
-        if let Age::Recent = self.admit(stored, password, &mut Hashes::new())? {
-            return Ok(LoggedIn {
-                accepted: Accepted::Current,
-                fresh: None,
-            });
+        let (old, age) = self.admit(stored, password, &mut Hashes::new())?;
+        if let Age::Recent = age {
+            return Ok(LoggedIn::Current);
         }
         let Ok(fresh) = self.hash_password(rng, password) else {
-            return Ok(LoggedIn {
-                accepted: Accepted::Kept,
-                fresh: None,
-            });
+            return Ok(LoggedIn::Kept);
         };
-        Ok(LoggedIn {
-            accepted: Accepted::Rehashed,
-            fresh: Some(fresh),
-        })
+        Ok(LoggedIn::Renewed(Renewal { old, fresh }))
     }
 
-    /// A fresh text of a new password, which the caller stores over a text that accepts the old password
-    /// as by [`log_in`](Policy::log_in). 16 bytes are drawn once the old password is accepted, and else
-    /// nothing is. An old password that is refused is hashed as by [`log_in`](Policy::log_in).
+    /// A fresh text of a new password, if what is stored accepts the old password as by
+    /// [`log_in`](Policy::log_in). The caller stores the fresh text in the place of the old one. 16 bytes are
+    /// drawn after the old password is accepted, and otherwise none. An old password that is refused is hashed
+    /// as by [`log_in`](Policy::log_in).
     ///
     /// # Errors
     /// The first of these that holds:
-    /// - those of [`log_in`](Policy::log_in) with the old password.
-    /// - [`Denial::Refused`] with those of [`hash_password`](Policy::hash_password) with the new one.
-    pub fn change_password<R: Rng>(
+    /// - the errors of [`log_in`](Policy::log_in) with the old password.
+    /// - [`Denial::Refused`] with the errors of [`hash_password`](Policy::hash_password) with the new one.
+    pub fn change_password<'text, R: Rng>(
         &self,
         rng: &mut R,
-        stored: Option<&str>,
+        stored: Option<&'text str>,
         old: &[u8],
         new: &[u8],
-    ) -> Result<PasswordHash, Denial>
+    ) -> Result<Renewal<'text>, Denial>
         ensures made { let text = option_copied stored.entry in let before = R.stream rng.old in MatchResult result
-            (λ fresh. AdmitsStored (policy_value self.now) old.now text
-            × IsFresh (policy_value self.now).target new.now (drawn_salt before) (phc_of fresh)
+            (λ renewal. AdmitsStored (policy_value self.now) old.now text
+            × IsFresh (policy_value self.now).target new.now (drawn_salt before) (phc_of renewal.fresh)
             × (R.stream rng.new ≡ after_salt before))
             (IsChangeRefusal (policy_value self.now) old.now new.now text before (R.stream rng.new)) }
-        ensures accepted { IfOk result (λ fresh.
-            AdmitsStored (policy_value self.now) new.now (Some (text_of fresh))) }
+        ensures old { IfOk result (λ renewal. option_copied stored.entry ≡ Some renewal.old.now) }
+        ensures accepted { IfOk result (λ renewal.
+            AdmitsStored (policy_value self.now) new.now (Some (text_of renewal.fresh))) }
     {
-        self.admit(stored, old, &mut Hashes::new())?;
-        Ok(self.hash_password(rng, new)?)
+        let (text, _) = self.admit(stored, old, &mut Hashes::new())?;
+        let fresh = self.hash_password(rng, new)?;
+        Ok(Renewal { old: text, fresh })
     }
 
-    // Whether a password is accepted by what is stored, and whether that is to be made anew.
-    fn admit(
+    // The text that is stored, if it accepts a password, and whether it stays.
+    fn admit<'text>(
         &self,
-        stored: Option<&str>,
+        stored: Option<&'text str>,
         password: &[u8],
         hashes: &mut Hashes,
-    ) -> Result<Age, Denial>
+    ) -> Result<(&'text str, Age), Denial>
         requires { hashes.old ≡ [] }
-        ensures found { IfOk result (λ age. (v : Phc) × SaysValue (option_copied stored.entry) v
-            × AsksWithin (policy_value self.now).bound v × IsFound (policy_value self.now) password.now v age) }
+        ensures text { IfOk result (λ found. option_copied stored.entry ≡ Some found.0.now) }
+        ensures found { IfOk result (λ found. (v : Phc) × SaysValue (option_copied stored.entry) v
+            × AsksWithin (policy_value self.now).bound v × IsFound (policy_value self.now) password.now v found.1) }
         ensures denied { IfErr result
             (Denies (policy_value self.now) password.now (option_copied stored.entry)) }
         ensures refused { IfErr result (λ why. (why ≡ Refused OutOfMemory)
@@ -229,7 +225,7 @@ impl<'key> Policy<'key> {
             HashesRefused (policy_value self.now) password.now (option_copied stored.entry) why hashes.new) }
     {
         match read(stored) {
-            Ok(hash) => self.verify(&hash, password, hashes),
+            Ok((text, hash)) => Ok((text, self.verify(&hash, password, hashes)?)),
             Err(why) => {
                 self.hash_for_nobody(password, hashes);
                 Err(why)
@@ -237,7 +233,7 @@ impl<'key> Policy<'key> {
         }
     }
 
-    // Verifies a password by a text that is open.
+    // Verifies a password by what a stored text says.
     fn verify(
         &self,
         hash: &PasswordHash,
@@ -274,7 +270,7 @@ impl<'key> Policy<'key> {
         Ok(Age::Outdated)
     }
 
-    // Hashes a password as one that is wrong for a text of the target's settings.
+    // Hashes a password as if it were wrong for a text of the target's settings.
     fn hash_for_nobody(&self, password: &[u8], hashes: &mut Hashes)
         requires { hashes.old ≡ [] }
         ensures { hashes.new ≡ hashes_of_wrong (policy_value self.now)
@@ -322,7 +318,7 @@ impl<'key> Policy<'key> {
         if shown.m_cost() < wanted.m_cost() || shown.t_cost() < wanted.t_cost() {
             return false;
         }
-        if shown.p_cost() < wanted.p_cost() || length(shown) < length(wanted) {
+        if shown.p_cost() < wanted.p_cost() || shown.hash_len() < wanted.hash_len() {
             return false;
         }
         shown.keyid() == wanted.keyid() && shown.data() == wanted.data()
@@ -337,11 +333,4 @@ impl fmt::Debug for Policy<'_> {
             .field("bound", &self.bound)
             .finish_non_exhaustive()
     }
-}
-
-// How many bytes a hash has.
-fn length(params: &Params) -> usize
-    ensures { result ≡ unwrap_or (parameters_of params.now).output_len 32 }
-{
-    params.output_len().unwrap_or(Params::DEFAULT_OUTPUT_LEN)
 }

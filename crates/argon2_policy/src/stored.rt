@@ -1,6 +1,6 @@
-//! What is stored for a name.
+//! Reads what is stored for a name.
 
-ghost use Rattle.std.specs.Prelude.{◌≡◌, IfErr, IfOk, option_copied};
+ghost use Rattle.std.specs.Prelude.{◌≡◌, IfErr, IfOk, Some, option_copied};
 ghost use Rattle.argon2_base.specs.PhcFields.{phc_of};
 ghost use Rattle.argon2_base.specs.PhcText.{Phc};
 ghost use Rattle.argon2_policy.specs.StoredFor.{IsShut, SaysValue};
@@ -9,11 +9,12 @@ use crate::denial::Denial;
 use argon2::PasswordHash;
 use argon2_schemes::{after_lock, scheme_of};
 
-/// What a stored text says, if there is one that is open.
-pub(crate) fn read(stored: Option<&str>) -> Result<PasswordHash, Denial>
-    ensures found { IfOk result (λ hash. SaysValue (option_copied stored.entry) (phc_of hash)) }
-    ensures only { IfOk result (λ hash. (v : Phc) → SaysValue (option_copied stored.entry) v
-        → phc_of hash ≡ v) }
+/// The stored text and what it says, if there is a text that a password may open.
+pub(crate) fn read(stored: Option<&str>) -> Result<(&str, PasswordHash), Denial>
+    ensures text { IfOk result (λ found. option_copied stored.entry ≡ Some found.0.now) }
+    ensures found { IfOk result (λ found. SaysValue (option_copied stored.entry) (phc_of found.1)) }
+    ensures only { IfOk result (λ found. (v : Phc) → SaysValue (option_copied stored.entry) v
+        → phc_of found.1 ≡ v) }
     ensures shut { IfErr result (IsShut (option_copied stored.entry)) }
 {
     let Some(text) = stored else {
@@ -24,6 +25,6 @@ pub(crate) fn read(stored: Option<&str>) -> Result<PasswordHash, Denial>
     }
     match scheme_of(text.as_bytes()) {
         Some(scheme) => Err(Denial::OtherScheme(scheme)),
-        None => Ok(PasswordHash::new(text)?),
+        None => Ok((text, PasswordHash::new(text)?)),
     }
 }

@@ -1,7 +1,7 @@
 use Rattle.std.proofs.Common.{◌≡◌, ℕ, Bool, false, List, Option, Bor, arith, option_copied}
 use Rattle.std.specs.Option.{is_some}
 use Rattle.argon2_schemes.specs.Locks.{after_lock, is_locked}
-use Rattle.argon2_policy.proofs.PolicyLemmas.{err_is}
+use Rattle.argon2_policy.proofs.DenyingLemmas.{err_is}
 use Rattle.argon2_policy.proofs.stored.read.Goals as goal
 
 -- a text that has nothing after a lock is not locked

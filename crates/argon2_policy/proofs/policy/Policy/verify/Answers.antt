@@ -2,7 +2,9 @@ use Rattle.std.proofs.Common.{◌≡◌, arith, inl, inr, subst}
 use Rattle.std.specs.Prelude.{◌≢◌, Err}
 use Rattle.argon2.specs.Argon2.{secret_of}
 use Rattle.argon2.specs.StoredTexts.{stored_value}
-use Rattle.argon2_policy.proofs.PolicyLemmas.{IsVerifyAnswer, PasswordInvalid, denied_by_old, denied_by_target, err_is, found_by_old, found_by_target, asked_once, phc_of, policy_value, shows}
+use Rattle.argon2_policy.specs.Policy.{IsVerifyAnswer, PasswordInvalid, phc_of, policy_value}
+use Rattle.argon2_policy.proofs.DenyingLemmas.{err_is}
+use Rattle.argon2_policy.proofs.VerifyingLemmas.{refused_memory_takes_one_hash, value_is_denied_by_old, value_is_denied_by_target, value_is_found_by_old, value_is_found_by_target, verified_value_shows_settings}
 use Rattle.argon2_policy.proofs.policy.Policy.verify.Goals as goal
 
 pub returns-in_default-clause-found : goal.returns-in_default-clause-found
@@ -11,9 +13,9 @@ returns-in_default-clause-found c =
     let v = phc_of c.args.hash.now in
     let shown = c.in-Ok.ensures.shown in (
       c.in-Ok.ensures.within,
-      found_by_target policy c.args.password.now v (stored_value c.in-Ok.text) shown c.age.result
+      value_is_found_by_target policy c.args.password.now v (stored_value c.in-Ok.text) shown c.age.result
           (c.in_default.ensures.answer v shown)
-          (c.age.ensures v (shows policy c.args.password.now v (stored_value c.in-Ok.text) shown)),
+          (c.age.ensures v (verified_value_shows_settings policy c.args.password.now v (stored_value c.in-Ok.text) shown)),
     )
 
 pub returns-then-ne-clause-denied : goal.returns-then-ne-clause-denied
@@ -22,7 +24,7 @@ returns-then-ne-clause-denied c =
     let v = phc_of c.args.hash.now in
     let shown = c.in-Ok.ensures.shown in
     let isnt : c.in-Err.error ≢ PasswordInvalid = λ is. grind arith in
-    denied_by_target policy c.args.password.now v (stored_value c.in-Ok.text) shown c.in-Err.error c.in-Ok.ensures.within
+    value_is_denied_by_target policy c.args.password.now v (stored_value c.in-Ok.text) shown c.in-Err.error c.in-Ok.ensures.within
     (inl isnt) (c.in-Err.ensures.answer v shown)
 
 pub returns-then-ne-clause-hashed : goal.returns-then-ne-clause-hashed
@@ -31,7 +33,7 @@ returns-then-ne-clause-hashed c =
     let v = phc_of c.args.hash.now in
     let shown = c.in-Ok.ensures.shown in
     let isnt : c.in-Err.error ≢ PasswordInvalid = λ is. grind arith in
-    asked_once policy c.args.password.now v (stored_value c.in-Ok.text) c.in-Err.error _ shown
+    refused_memory_takes_one_hash policy c.args.password.now v (stored_value c.in-Ok.text) c.in-Err.error _ shown
     (c.in-Err.ensures.answer v shown) isnt (grind arith)
 
 pub returns-in_default-old_target-clause-denied : goal.returns-in_default-old_target-clause-denied
@@ -39,7 +41,7 @@ returns-in_default-old_target-clause-denied c =
     let policy = policy_value c.args.self.now in
     let v = phc_of c.args.hash.now in
     let shown = c.in-Ok.ensures.shown in
-    denied_by_target policy c.args.password.now v (stored_value c.in-Ok.text) shown c.in-Err.error c.in-Ok.ensures.within
+    value_is_denied_by_target policy c.args.password.now v (stored_value c.in-Ok.text) shown c.in-Err.error c.in-Ok.ensures.within
     (inr (rw c.in_default-old_target.is at c.old_target.ensures)) (c.in-Err.ensures.answer v shown)
 
 pub returns-in_err-verify-clause-denied : goal.returns-in_err-verify-clause-denied
@@ -51,7 +53,7 @@ returns-in_err-verify-clause-denied c =
     let first = subst (λ e. IsVerifyAnswer policy.target.secret c.args.password.now v (Err e)) is
     (c.in-Err.ensures.answer v shown) in
     rw (err_is _ _ c.from_residual.ensures.1)
-    (denied_by_old policy c.args.password.now v (stored_value c.in-Ok.text) shown
+    (value_is_denied_by_old policy c.args.password.now v (stored_value c.in-Ok.text) shown
     (secret_of c.in-Some.old) c.in_err-verify.field-0.0
     (rw c.in-Some.is at c.old_target.ensures).0 c.in-Ok.ensures.within first (c.in_err-verify.ensures.answer v shown))
 
@@ -64,6 +66,6 @@ returns-clause-found c =
     let first = subst (λ e. IsVerifyAnswer policy.target.secret c.args.password.now v (Err e)) is
     (c.in-Err.ensures.answer v shown) in (
       c.in-Ok.ensures.within,
-      found_by_old policy c.args.password.now v (stored_value c.in-Ok.text) shown (secret_of c.in-Some.old)
+      value_is_found_by_old policy c.args.password.now v (stored_value c.in-Ok.text) shown (secret_of c.in-Some.old)
           (rw c.in-Some.is at c.old_target.ensures).0 first (c.in_ok-verify.ensures.answer v shown),
     )
