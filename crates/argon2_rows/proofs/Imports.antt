@@ -19,7 +19,7 @@ pub use Rattle.sqlite_trees.specs.View.{Advances, IsStorable, KeepsSchema, View,
 pub use Rattle.sqlite_trees.specs.declared.store.Direction.TheVariants.{Forward}
 pub use Rattle.sqlite_store.proofs.RowLemmas.{from_key-none}
 pub use Rattle.argon2_rows.specs.Names.{AddsAll, AddsEach, Texts, changed, entry_of, Bor, StoredText, AddError, Store, Taken}
-pub use Rattle.argon2_rows.specs.Rows.{AreCut, AreCutLines, AreLines, AreTexts, AreLinesOf, AreWritten, IsLineOf, HasNoneAfter, IsAccount, IsAfterAll, IsFoundAs, breaks_line, row_of, rows_of, shown_char, Keeps, Later, Name}
-pub use Rattle.argon2_rows.specs.Rows.{Appends, Text, Written, Breaks, Failed}
+pub use Rattle.argon2_rows.specs.Lines.{AreCut, AreCutLines, AreLinesOf, AreWritten, IsLineOf, breaks_line, shown_char, Appends, Keeps, Written, Breaks, Failed}
+pub use Rattle.argon2_rows.specs.Rows.{AreLines, AreTexts, HasNoneAfter, IsAccount, IsAfterAll, IsFoundAs, row_of, rows_of, Later, Name, Text}
 pub use Rattle.argon2_rows.specs.Table.{Changes, EndsRead, Finishes, HasBegun, HasRows, HasSome, IsHonest, IsHuge, IsKept, IsLong, IsOpen, CrashLeaves, Sees, StaysQuiet, AddsNames, Writes}
 pub use Rattle.argon2_rows.specs.Table.{WritesAll, done_of, written_of, IsDue, TellsFault, StoreError, Io, Index, Ghosts, MoreFaults}

@@ -14,50 +14,59 @@ use Rattle.sqlite_trees.proofs.Doubt.{never_clean, no_doubt}
 use Rattle.sqlite_trees.proofs.TreeLemmas.{prefix_cmp-one}
 use Rattle.std.specs.Float.Ieee
 
--- after a change of one name, it has the text that it was given, and the other names keep their texts
-pub get-at : (m : Texts) (n q : List ℕ) (o : Option (List ℕ)) → get (changed m n o) q ≡ cond (bytes_eq q n) o (get m q)
-get-at m n q None = search (arith, get-remove nat_list_cmp_total m n q, is_eq-slice_cmp q n)
-get-at m n q (Some text) = search (arith, get-insert nat_list_cmp_total m n text q, is_eq-slice_cmp q n)
+-- the text of a name after the text of one name was changed
+pub get-changed_any : (m : Texts) (n q : List ℕ) (o : Option (List ℕ)) → get (changed m n o) q ≡ cond (bytes_eq q n) o (get m q)
+get-changed_any m n q None = search (arith, get-remove nat_list_cmp_total m n q, is_eq-slice_cmp q n)
+get-changed_any m n q (Some text) = search (arith, get-insert nat_list_cmp_total m n text q, is_eq-slice_cmp q n)
 
+-- after a change of a name its text is the given one
 pub get-changed : (m : Texts) (n : List ℕ) (o : Option (List ℕ)) → get (changed m n o) n ≡ o
-get-changed m n o = grind (arith, get-at m n n o, bytes_eq-Decides n n)
+get-changed m n o = grind (arith, get-changed_any m n n o, bytes_eq-Decides n n)
 
-same_names : (a b : Texts) → ((q : List ℕ) → get a q ≡ get b q) → a ≡ b
-same_names = same_map nat_list_cmp_total (slice_cmp-IsAntisymmetric nat_cmp-IsAntisymmetric)
+-- two maps in which each name has the same text are equal
+Texts-extensional : (a b : Texts) → ((q : List ℕ) → get a q ≡ get b q) → a ≡ b
+Texts-extensional = same_map nat_list_cmp_total (slice_cmp-IsAntisymmetric nat_cmp-IsAntisymmetric)
 
--- a name that gets back what it had
-pub changed_back : (m changed_m : Texts) (n : List ℕ) (o : Option (List ℕ)) → ((q : List ℕ) → q ≢ n → get changed_m q ≡ get m q)
+-- a change that gives a name its old text back restores the names
+pub changed-restores : (m changed_m : Texts) (n : List ℕ) (o : Option (List ℕ))
+    → ((q : List ℕ) → q ≢ n → get changed_m q ≡ get m q)
     → get m n ≡ o → changed changed_m n o ≡ m
-changed_back m changed_m n o kept has =
-    same_names _ _ (λ q. grind (arith, get-at changed_m n q o, kept q, bytes_eq-Decides q n))
+changed-restores m changed_m n o kept has =
+    Texts-extensional _ _ (λ q. grind (arith, get-changed_any changed_m n q o, kept q, bytes_eq-Decides q n))
 
--- a change of a name that was taken out is a change of the name
-pub changed-remove : (m : Texts) (n : List ℕ) (o : Option (List ℕ)) → changed (remove m n) n o ≡ changed m n o
-changed-remove m n o = same_names _ _ (λ q. grind (arith, get-at (remove m n) n q o, get-at m n q None, get-at m n q o))
+-- a change of a name that was removed is a change of the name
+pub changed-after_remove : (m : Texts) (n : List ℕ) (o : Option (List ℕ)) → changed (remove m n) n o ≡ changed m n o
+changed-after_remove m n o =
+    Texts-extensional _ _
+    (λ q. grind (arith, get-changed_any (remove m n) n q o, get-changed_any m n q None, get-changed_any m n q o))
 
--- two names may be changed in any order
-pub changed_apart : (m : Texts) (n p : List ℕ) (o q : Option (List ℕ)) → n ≢ p
+-- changes of two different names may change places
+pub changed-commutes : (m : Texts) (n p : List ℕ) (o q : Option (List ℕ)) → n ≢ p
     → changed (changed m n o) p q ≡ changed (changed m p q) n o
-changed_apart m n p o q differ = same_names _ _ (λ k. grind (arith, get-at, bytes_eq-Decides k n, bytes_eq-Decides k p))
+changed-commutes m n p o q differ =
+    Texts-extensional _ _ (λ k. grind (arith, get-changed_any, bytes_eq-Decides k n, bytes_eq-Decides k p))
 
--- names that are changed still are texts
-pub texts_changed : (names : Texts) (name : List ℕ) (o : Option (List ℕ)) → AreTexts names → IsUtf8 name
+-- names and texts stay UTF-8 if one name gets a text in UTF-8, or none
+pub AreTexts-changed : (names : Texts) (name : List ℕ) (o : Option (List ℕ)) → AreTexts names → IsUtf8 name
     → IfSome o IsUtf8 → AreTexts (changed names name o)
-texts_changed names name o texts named good other text has =
-    grind (arith, get-at names name other o, texts other text, bytes_eq-Decides other name)
+AreTexts-changed names name o texts named good other text has =
+    grind (arith, get-changed_any names name other o, texts other text, bytes_eq-Decides other name)
 
--- ---- the rows of names are those of one map
+-- ---- the rows of names are the rows of one map
 
-one_list : (es fs : List (List ℕ × List ℕ)) → map row_of es ≡ map row_of fs → es ≡ fs
-one_list [] [] one = refl
-one_list (e ∷ es) (f ∷ fs) one = grind (arith, one_list es fs)
-one_list es fs one = absurd cc
+-- entries with the same rows are the same
+map_row_of-injective : (es fs : List (List ℕ × List ℕ)) → map row_of es ≡ map row_of fs → es ≡ fs
+map_row_of-injective [] [] one = refl
+map_row_of-injective (e ∷ es) (f ∷ fs) one = grind (arith, map_row_of-injective es fs)
+map_row_of-injective es fs one = absurd cc
 
-pub rows_of-once : (a b : Texts) → rows_of a ≡ rows_of b → a ≡ b
-rows_of-once a b one = same_entries_map a b (one_list (entries a) (entries b) one)
+-- names with the same rows are the same
+pub rows_of-injective : (a b : Texts) → rows_of a ≡ rows_of b → a ≡ b
+rows_of-injective a b one = same_entries_map a b (map_row_of-injective (entries a) (entries b) one)
 
 -- ---- the rows of names, if one name more is set or one is taken out, and which rows are too long
 
+-- names are ordered by their bytes
 abbrev pub order : List ℕ → List ℕ → Ordering
 order = slice_cmp nat_cmp
 
@@ -66,159 +75,183 @@ row_cmp-row_of : (e f : List ℕ × List ℕ) → entry_cmp plain (row_of e) (ro
     ≡ ordering_then (order e.0 f.0) (row_cmp (Text e.1 ∷ []) (Text f.1 ∷ []))
 row_cmp-row_of e f = search (arith, entry_cmp-plain, value_cmp-Text)
 
+-- inserting the row of a new name among the rows of entries puts the name among the entries
 insert_entry-map : (k v : List ℕ) (es : List (List ℕ × List ℕ)) → find order k es ≡ None
     → insert_entry plain (row_of (k, v)) (map row_of es) ≡ map row_of (put order k v es)
 insert_entry-map k v [] none = refl
 insert_entry-map k v (e ∷ es) none =
     grind (arith, nat_list_cmp_total.antisymm k e.0, row_cmp-row_of e (k, v), insert_entry-map k v es)
 
+-- inserting the row of a new name gives the rows of the names with this name
 pub insert_entry-rows_of : (names : Texts) (name v : List ℕ) → get names name ≡ None
     → insert_entry plain (row_of (name, v)) (rows_of names) ≡ rows_of (insert names name v)
 insert_entry-rows_of names name v none = search (arith, insert_entry-map, get-entries, entries-insert, nat_list_cmp_total)
 
--- a row that was put among others is taken out again, and none of them is taken out
-taken : (k u : List ℕ) (es : List (List ℕ × List ℕ)) → find order k es ≡ None
+-- removing the row of a name from the rows of entries takes out this name, and nothing if the name is new
+remove_entry-map : (k u : List ℕ) (es : List (List ℕ × List ℕ)) → find order k es ≡ None
     → (remove_entry plain (row_of (k, u)) (map row_of (put order k u es)) ≡ map row_of es)
     × (remove_entry plain (row_of (k, u)) (map row_of es) ≡ map row_of es)
-taken k u [] none = grind (arith, tied_itself (entry_cmp_total plain) (row_of (k, u)))
-taken k u (e ∷ es) none =
+remove_entry-map k u [] none = grind (arith, tied_itself (entry_cmp_total plain) (row_of (k, u)))
+remove_entry-map k u (e ∷ es) none =
     let own = tied_itself (entry_cmp_total plain) (row_of (k, u)) in
-    grind (arith, row_cmp-row_of e (k, u), nat_list_cmp_total.antisymm k e.0, taken k u es)
+    grind (arith, row_cmp-row_of e (k, u), nat_list_cmp_total.antisymm k e.0, remove_entry-map k u es)
 
+-- removing the row of a name gives the rows of the names without it
 pub remove_entry-rows_of : (names : Texts) (name u : List ℕ) → get names name ≡ Some u
     → remove_entry plain (row_of (name, u)) (rows_of names) ≡ rows_of (remove names name)
 remove_entry-rows_of names name u has =
-    let back = changed-remove names name (Some u) ∙ changed_back names names name (Some u) (λ q far. refl) has in
+    let back = changed-after_remove names name (Some u) ∙ changed-restores names names name (Some u) (λ q far. refl) has in
     grind (
       arith,
       entries-insert nat_list_cmp_total (remove names name) name u,
-      taken name u,
+      remove_entry-map name u,
       get-entries,
       get-changed names name None,
     )
 
 -- ---- long rows
 
--- a row that may not be stored is huge
-pub is_huge : (reals : ℕ) (row : Row) (e : List ℕ × List ℕ) → row ≡ row_of e → ¬ (IsStorable reals row) → IsHuge e
+-- a row that no tree stores is huge
+pub IsHuge-unstorable : (reals : ℕ) (row : Row) (e : List ℕ × List ℕ) → row ≡ row_of e → ¬ (IsStorable reals row) → IsHuge e
 unfolding Ieee.is_nan
-is_huge reals row e is not = grind arith
+IsHuge-unstorable reals row e is not = grind arith
 
-pub long_if_huge : (e : List ℕ × List ℕ) → IsHuge e → IsLong e
-long_if_huge e huge = grind arith
+-- a huge row has a long name or a long text
+pub IsLong-IsHuge : (e : List ℕ × List ℕ) → IsHuge e → IsLong e
+IsLong-IsHuge e huge = grind arith
 
 -- ---- a seek by a name finds its row, or the name has none
 
--- over only the name's column, a row compares with a key as its name does
-row_by_name : (e : List ℕ × List ℕ) (k : List ℕ) → prefix_cmp plain (row_of e) (Text k ∷ []) ≡ order e.0 k
-row_by_name e k = grind (arith, prefix_cmp-one (Text e.0) (Text e.1 ∷ []) (Text k), value_cmp-Text)
+-- by the first column a row compares with a key as its name does
+prefix_cmp-row_of : (e : List ℕ × List ℕ) (k : List ℕ) → prefix_cmp plain (row_of e) (Text k ∷ []) ≡ order e.0 k
+prefix_cmp-row_of e k = grind (arith, prefix_cmp-one (Text e.0) (Text e.1 ∷ []) (Text k), value_cmp-Text)
 
--- names that all are above one do not have it, nor one below it
-none_below : (j k : List ℕ) (es : List (List ℕ × List ℕ)) → is_gt (order j k) ≡ false → below_all order k es ≡ true
+-- entries whose names are above one name have neither this name nor a lower one
+find-below_all : (j k : List ℕ) (es : List (List ℕ × List ℕ)) → is_gt (order j k) ≡ false → below_all order k es ≡ true
     → find order j es ≡ None
-none_below j k [] upto above = refl
-none_below j k (e ∷ es) upto above = grind (arith, nat_list_cmp_total.trans, nat_list_cmp_total.congr, none_below j k es upto)
+find-below_all j k [] upto above = refl
+find-below_all j k (e ∷ es) upto above =
+    grind (arith, nat_list_cmp_total.trans, nat_list_cmp_total.congr, find-below_all j k es upto)
 
--- the row at which a seek by a name stands is that of the name, or the name has none
-met_at : (k : List ℕ) (es : List (List ℕ × List ℕ)) (met : Row) (left : List Row) → T (is_sorted order es)
+-- the first row from a key on is the row of this name, or the name has none
+from_key-first_row : (k : List ℕ) (es : List (List ℕ × List ℕ)) (met : Row) (left : List Row) → T (is_sorted order es)
     → from_key plain (Text k ∷ []) (map row_of es) ≡ met ∷ left
     → (column met 0 ≡ Text k → (v : List ℕ) × (find order k es ≡ Some v) × (met ≡ row_of (k, v)))
     × ((column met 0 ≡ Text k → ⊥) → find order k es ≡ None)
-met_at k [] met left sorted at = absurd cc
-met_at k (e ∷ es) met left sorted at =
+from_key-first_row k [] met left sorted at = absurd cc
+from_key-first_row k (e ∷ es) met left sorted at =
     let same = slice_cmp-IsAntisymmetric nat_cmp-IsAntisymmetric k e.0 in
     let tied = tied_itself nat_list_cmp_total k in
-    grind (arith, row_by_name e k, nat_list_cmp_total.antisymm k e.0, none_below k e.0 es, met_at k es met left)
+    grind (
+      arith,
+      prefix_cmp-row_of e k,
+      nat_list_cmp_total.antisymm k e.0,
+      find-below_all k e.0 es,
+      from_key-first_row k es met
+          left,
+    )
 
--- if a seek by a name stands after all rows, they are of no such name, and of none after it
-none_past : (k n : List ℕ) (es : List (List ℕ × List ℕ)) → is_gt (order k n) ≡ false
+-- if no row is left from a key on, neither this name nor a later one has a row
+from_key-no_row : (k n : List ℕ) (es : List (List ℕ × List ℕ)) → is_gt (order k n) ≡ false
     → from_key plain (Text k ∷ []) (map row_of es) ≡ [] → find order n es ≡ None
-none_past k n [] upto past = refl
-none_past k n (e ∷ es) upto past =
+from_key-no_row k n [] upto past = refl
+from_key-no_row k n (e ∷ es) upto past =
     let alike = alike_right nat_list_cmp_total k n e.0 in
-    grind (arith, row_by_name e k, nat_list_cmp_total.trans e.0 k n, nat_list_cmp_total.antisymm n e.0, none_past k n es upto)
+    grind (
+      arith,
+      prefix_cmp-row_of e k,
+      nat_list_cmp_total.trans e.0 k n,
+      nat_list_cmp_total.antisymm n e.0,
+      from_key-no_row k n
+          es upto,
+    )
 
 -- ---- the calls of a look-up
 
 module _ (old : View) (names : Texts) {mid : View} {k : List ℕ} {key : Row} (shape : old.shape 0 ≡ Index plain)
     (rows : old.trees 0 ≡ rows_of names) (at : key ≡ Text k ∷ [])
     (is : mid ≡ with_cursor old 1 (sought (order_of (old.shape 0)) Forward key (old.trees 0))) where
-  -- what the cursor has to give after the seek
-  placed : mid.cursors 1 ≡ Some (from_key plain (Text k ∷ []) (rows_of names))
-  placed = grind arith
+  -- after a seek by a name the cursor is before the rows from this name on
+  seek-cursor : mid.cursors 1 ≡ Some (from_key plain (Text k ∷ []) (rows_of names))
+  seek-cursor = grind arith
 
-  pub gives : {new : View} {met : Row} → Advances mid new 1 met true
+  -- the next row after a seek by a name is the row of this name, or the name has none
+  pub seek_next-row : {new : View} {met : Row} → Advances mid new 1 met true
       → (column met 0 ≡ column key 0 → IsFoundAs names k Name met)
       × ((column met 0 ≡ column key 0 → ⊥) → IsFoundAs names k Later met)
-  gives {met = met} moves =
-      let found = met_at k (entries names) met moves.0 (entries_sorted names) in grind (arith, get-entries names k)
+  seek_next-row {met = met} moves =
+      let found = from_key-first_row k (entries names) met moves.0 (entries_sorted names) in grind (arith, get-entries names k)
 
-  pub ends : {new : View} (met : Row) → Advances mid new 1 met false → IsAfterAll names k
-  ends met moves =
+  -- if there is no next row after a seek by a name, neither this name nor a later one has a row
+  pub seek_next-end : {new : View} (met : Row) → Advances mid new 1 met false → IsAfterAll names k
+  seek_next-end met moves =
       let past = λ (n : List ℕ) (upto : is_gt (order k n) ≡ false).
-      get-entries names n ∙ none_past k n (entries names) upto (same_Some _ [] (sym placed ∙ moves.0)) in
+      get-entries names n ∙ from_key-no_row k n (entries names) upto (same_Some _ [] (sym seek-cursor ∙ moves.0)) in
       (past k (ap is_gt (tied_itself nat_list_cmp_total k)), λ n later. past n (ap is_gt later))
 
 -- ---- reading the rows of a table one by one
 
--- each row is of an account, and has another name than the row before it
-abbrev pub Follow : Row → List Row → Type 0
-Follow last [] = ⊤
-Follow last (row ∷ rows) = IsAccount row × (column row 0 ≡ column last 0 → ⊥) × Follow row rows
+-- each row has a name and a text of one line, and another name than the row before it
+abbrev pub FollowsEach : Row → List Row → Type 0
+FollowsEach last [] = ⊤
+FollowsEach last (row ∷ rows) = IsAccount row × (column row 0 ≡ column last 0 → ⊥) × FollowsEach row rows
 
--- the rows of names do, if each is of an account
-pub follow_rows : (last : Row) (es : List (List ℕ × List ℕ)) → T (is_sorted order es)
+-- the rows of names do so if each name has a text of one line
+pub FollowsEach-rows_of : (last : Row) (es : List (List ℕ × List ℕ)) → T (is_sorted order es)
     → ((k v : List ℕ) → find order k es ≡ Some v → IsAccount (row_of (k, v)) × (Text k ≡ column last 0 → ⊥))
-    → Follow last (map row_of es)
-follow_rows last [] sorted each = tt
-follow_rows last (e ∷ es) sorted each =
+    → FollowsEach last (map row_of es)
+FollowsEach-rows_of last [] sorted each = tt
+FollowsEach-rows_of last (e ∷ es) sorted each =
     let (its, new) = each e.0 e.1 (grind (arith, tied_itself nat_list_cmp_total e.0)) in (
       its,
       new,
-      follow_rows (row_of e) es (grind arith) (λ k v found.
-          grind (arith, tied_itself nat_list_cmp_total e.0, none_below k e.0 es, each k v)),
+      FollowsEach-rows_of (row_of e) es (grind arith) (λ k v found.
+          grind (arith, tied_itself nat_list_cmp_total e.0, find-below_all k e.0 es, each k v)),
     )
 
--- if the name of each text is so, each name is
-pub each_name : (P : List ℕ → Type 0) (es : List (List ℕ × List ℕ)) → ((k v : List ℕ) → find order k es ≡ Some v → P k)
+-- a property of each name with a text holds for the names of all entries
+pub find-each_name : (P : List ℕ → Type 0) (es : List (List ℕ × List ℕ)) → ((k v : List ℕ) → find order k es ≡ Some v → P k)
     → AllByRecursion (λ e. P e.0) es
-each_name P [] each = tt
-each_name P (e ∷ es) each = (
+find-each_name P [] each = tt
+find-each_name P (e ∷ es) each = (
   each e.0 e.1 (grind (arith, tied_itself nat_list_cmp_total e.0)),
-  each_name P es (λ k v found. each k (cond (eq_by_cmp order k e.0) e.1 v) (grind arith)),
+  find-each_name P es (λ k v found. each k (cond (eq_by_cmp order k e.0) e.1 v) (grind arith)),
 )
 
--- a name before all others is put before them
-lowest : (e : List ℕ × List ℕ) (es : List (List ℕ × List ℕ)) (row : Row) (rows : List Row) → row ≡ row_of e → map row_of es ≡ rows
-    → IsIndex plain (row ∷ rows) → Follow row rows → put order e.0 e.1 es ≡ e ∷ es
-lowest e [] row rows at is index more = refl
-lowest e (f ∷ fs) row rows at is index more =
+-- a name below all others is put before them
+put-lowest : (e : List ℕ × List ℕ) (es : List (List ℕ × List ℕ)) (row : Row) (rows : List Row) → row ≡ row_of e
+    → map row_of es ≡ rows
+    → IsIndex plain (row ∷ rows) → FollowsEach row rows → put order e.0 e.1 es ≡ e ∷ es
+put-lowest e [] row rows at is index more = refl
+put-lowest e (f ∷ fs) row rows at is index more =
     grind (arith, row_cmp-row_of e f, slice_cmp-IsAntisymmetric nat_cmp-IsAntisymmetric e.0 f.0)
 
--- rows of accounts that do so in a tree are those of names
-its_names : (last : Row) (rows : List Row) → IsIndex plain rows → Follow last rows
+-- rows that do so, in the order of a tree, are the rows of some names
+FollowsEach-names : (last : Row) (rows : List Row) → IsIndex plain rows → FollowsEach last rows
     → (names : Texts) × AreTexts names × AreLines names × (rows_of names ≡ rows)
-its_names last [] index all = (
+FollowsEach-names last [] index all = (
   from_sorted [],
   grind (arith, get-from_sorted),
   grind (arith, get-from_sorted),
   ap (map row_of) (entries-from_sorted order [] tt),
 )
-its_names last (row ∷ rows) index ((e, named, good, line, at), new, more) =
-    let (names, texts, lines, is) = its_names row rows index.1 more in (
+FollowsEach-names last (row ∷ rows) index ((e, named, good, line, at), new, more) =
+    let (names, texts, lines, is) = FollowsEach-names row rows index.1 more in (
       insert names e.0 e.1,
-      texts_changed names e.0 (Some e.1) texts named good,
-      λ k v has. grind (arith, get-at names e.0 k (Some e.1), lines k v),
-      grind (arith, entries-insert nat_list_cmp_total names, lowest e (entries names) row rows),
+      AreTexts-changed names e.0 (Some e.1) texts named good,
+      λ k v has. grind (arith, get-changed_any names e.0 k (Some e.1), lines k v),
+      grind (arith, entries-insert nat_list_cmp_total names, put-lowest e (entries names) row rows),
     )
 
--- what the rows that are left say of all rows
+-- while rows are read, the rows that are left do so if and only if all rows do
 pub record IsReading (first now : View) (last : Row) : Type 0 where
   pub same : now ≡ record first { cursors = now.cursors }
-  pub all : Follow last (unwrap_or (now.cursors 0) []) ↔ Follow [] (first.trees 0)
+  pub all : FollowsEach last (unwrap_or (now.cursors 0) []) ↔ FollowsEach [] (first.trees 0)
 
--- rows that were read are those of names, unless the disk lied
-pub known : (clean : Bool) (rows : List Row) → (doubt clean ≡ 0 → IsIndex plain rows × Follow [] rows)
+-- rows that were read to the end are the rows of some names, unless the disk gave a wrong answer
+pub names-of_read_rows : (clean : Bool) (rows : List Row) → (doubt clean ≡ 0 → IsIndex plain rows × FollowsEach [] rows)
     → (names : Texts) × AreTexts names × AreLines names × (doubt clean ≡ 0 → rows_of names ≡ rows)
-known true rows is = let it = its_names [] rows (is (no_doubt true refl)).0 (is (no_doubt true refl)).1 in search arith
-known false rows is = let it = its_names [] [] tt tt in (it.0, it.1, it.2, λ clean. absurd (never_clean clean))
+names-of_read_rows true rows is =
+    let it = FollowsEach-names [] rows (is (no_doubt true refl)).0 (is (no_doubt true refl)).1 in search arith
+names-of_read_rows false rows is =
+    let it = FollowsEach-names [] [] tt tt in (it.0, it.1, it.2, λ clean. absurd (never_clean clean))

@@ -1,4 +1,5 @@
+pub mod Lines
 pub mod Names
 pub mod Rows
-pub mod StoredTexts
+pub mod RowTexts
 pub mod Table

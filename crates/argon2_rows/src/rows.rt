@@ -1,23 +1,19 @@
-//! Reading the rows.
+//! The row of a name with its text: filling it, finding it by the name, and checking all rows.
 
-ghost use Rattle.std.specs.Prelude.{◌≡◌, ◌<◌, ◌↔◌, [], ◌∷◌, ℕ, List, false, string_bytes, IsSomeAnd, IsTrue, IsUtf8, IfErr, IfOk, IfSome, MatchResult, OnOk};
+ghost use Rattle.std.specs.Prelude.{◌≡◌, ◌↔◌, [], ◌∷◌, ℕ, List, false, string_bytes, IsSomeAnd, IsTrue, IsUtf8, IfErr, IfOk, IfSome, MatchResult, OnOk};
 ghost use Rattle.std.specs.Option.{option_map};
 ghost use Rattle.sqlite_trees.specs.View.{IsFailure, KeepsSchema};
 ghost use Rattle.sqlite_trees.specs.declared.error.StoreError.TheVariants.{OutOfMemory};
 ghost use Rattle.argon2_rows.specs.Names.{Texts, get};
-ghost use Rattle.argon2_rows.specs.Rows.{AreCut, AreLines, AreTexts, AreWritten, IsAccount, IsFoundAs, IsLineOf, digit, line, row_of, rows_of, shown, shown_char, Appends, AppendsPrefix, Text};
-ghost use Rattle.argon2_rows.specs.declared.view.Written.TheVariants.{All, Failed};
+ghost use Rattle.argon2_rows.specs.Rows.{AreLines, AreTexts, IsAccount, IsFoundAs, row_of, rows_of, Text};
 ghost use Rattle.argon2_rows.specs.Table.{HasRows, IsDue, IsUnwritten, IsHonest, IsOpen, Sees, StaysQuiet, Writes, done_of, plain, Index};
 
-use crate::view::{View, Written};
-use argon2_io::{write_bytes, write_parts};
 use sqlite_trees::error::StoreError;
 use sqlite_trees::store::{Direction, Store};
 use sqlite_value::order::is_same;
 use sqlite_value::row::Row;
 use sqlite_value::value::ValueRef;
 use std::alloc::{AllocError, Global};
-use std::io::{self, Write};
 use std::mem;
 
 // The tree of the accounts.
@@ -32,8 +28,8 @@ pub(crate) fn fill_row(row: &mut Row, name: &str, text: &str) -> Result<(), Allo
     row.push(ValueRef::Text(text.as_bytes()))
 }
 
-// The two texts of a row that has nothing else.
-fn texts_in(row: &Row) -> Option<(&[u8], &[u8])>
+// The two texts of a row that has only these.
+pub(crate) fn texts_in(row: &Row) -> Option<(&[u8], &[u8])>
     ensures found { IfSome result (λ it. row.now ≡ Text it.0.now ∷ Text it.1.now ∷ []) }
     ensures only { (name text : List ℕ) → row.now ≡ Text name ∷ Text text ∷ [] →
         IsSomeAnd result (λ it. (it.0.now ≡ name) × (it.1.now ≡ text)) }
@@ -47,7 +43,7 @@ fn texts_in(row: &Row) -> Option<(&[u8], &[u8])>
     }
 }
 
-// Whether a row is that of a name with a text of one line: after a line break, it would read as a line of another name.
+// Whether a row has a name and a text of one line. After a line break a text would read as the line of another name.
 fn is_account(row: &Row) -> bool
     ensures { IsTrue result ↔ IsAccount row.now }
 {
@@ -65,13 +61,13 @@ fn is_account(row: &Row) -> bool
 pub(crate) enum Found {
     // The row of the name.
     Name,
-    // The row of a later name: this one has none.
+    // The row of a later name: the name that was sought has no row.
     Later,
-    // Neither this name nor a later one has a row.
+    // No row: neither this name nor a later name has one.
     End,
 }
 
-// Seeks the row of the name. If the tree has it, it is then in `row`.
+// Seeks the row of the name. If the tree has this row, it is then in `row`.
 pub(crate) fn find<S: Store>(
     store: &mut S,
     row: &mut Row,
@@ -105,7 +101,7 @@ pub(crate) fn find<S: Store>(
     }
 }
 
-// The text in the row of a name.
+// The text of a row.
 fn copy_text(alloc: Global, row: &Row) -> Result<String, StoreError>
     ensures { (e : List ℕ × List ℕ) → IsUtf8 e.1 → row.now ≡ row_of e → MatchResult result
         (λ text. string_bytes text ≡ e.1) (λ why. why ≡ OutOfMemory) }
@@ -119,10 +115,10 @@ fn copy_text(alloc: Global, row: &Row) -> Result<String, StoreError>
     }
 }
 
-/// The text of a name, if the tree has a row of it. `row` and `key` are memory for rows.
+/// The text of a name, if the tree has a row for the name. `row` and `key` are memory for rows.
 ///
 /// # Errors
-/// Those of the store, and out of memory.
+/// The errors of the store, and out of memory.
 pub fn look_up<S: Store>(
     alloc: Global,
     store: &mut S,
@@ -148,11 +144,11 @@ pub fn look_up<S: Store>(
     }
 }
 
-/// Reads all rows, and returns whether each is that of a name with a text of one line, and no name has two.
+/// Reads all rows, and returns whether each row has a name and a text of one line, and no name has two rows.
 /// `row` and `last` are memory for rows.
 ///
 /// # Errors
-/// Those of the store.
+/// The errors of the store.
 pub fn are_rows_sound<S: Store>(
     store: &mut S,
     row: &mut Row,
@@ -181,115 +177,6 @@ pub fn are_rows_sound<S: Store>(
             return Ok(false);
         }
         mem::swap(row, last);
-    }
-    // No file has that many rows.
-    Err(StoreError::OutOfMemory)
-}
-
-// Turns the result of the last write into the outcome of the lines.
-fn outcome(done: io::Result<()>) -> Written
-    ensures { MatchResult done (λ _. result ≡ All) (λ why. result ≡ Failed why) }
-{
-    match done {
-        Ok(()) => Written::All,
-        Err(error) => Written::Failed(error),
-    }
-}
-
-// Writes the line of a row, unless its name breaks it, if the row has two texts and nothing else.
-fn write_line<W: Write>(row: &Row, view: View, output: &mut W) -> Option<Written>
-    ensures { (e : List ℕ × List ℕ) → IsUtf8 e.0 → row.now ≡ row_of e →
-        IsSomeAnd result (IsLineOf view e (W.contents output.old) (W.contents output.new)) }
-{
-    let (name, text) = texts_in(row)?;
-    if view.breaks_line(name) {
-        return Some(Written::Breaks);
-    }
-    let name = str::from_utf8(name).ok()?;
-    Some(outcome(write_texts(name, text, view, output)))
-}
-
-// Writes the line of a name with its text.
-fn write_texts<W: Write>(name: &str, text: &[u8], view: View, output: &mut W) -> io::Result<()>
-    ensures written { OnOk result
-        (Appends (W.contents output.old) (W.contents output.new) (line view (name.now, text.now))) }
-    ensures cut { AppendsPrefix (W.contents output.old) (W.contents output.new)
-        (line view (name.now, text.now)) }
-{
-    if let View::Export = view {
-        return write_parts(output, &[name.as_bytes(), b":", text, b"\n"]);
-    }
-    write_name(name, output)?;
-    write_bytes(output, b"\n")
-}
-
-// Writes a name as a list shows it.
-fn write_name<W: Write>(name: &str, output: &mut W) -> io::Result<()>
-    ensures written { OnOk result
-        (Appends (W.contents output.old) (W.contents output.new) (shown name.now)) }
-    ensures cut { AppendsPrefix (W.contents output.old) (W.contents output.new) (shown name.now) }
-{
-    for c in name.chars() {
-        write_char(c, output)?;
-    }
-    Ok(())
-}
-
-// Writes a character of a name as a list shows it.
-fn write_char<W: Write>(c: char, output: &mut W) -> io::Result<()>
-    ensures written { OnOk result
-        (Appends (W.contents output.old) (W.contents output.new) (shown_char c)) }
-    ensures cut { AppendsPrefix (W.contents output.old) (W.contents output.new) (shown_char c) }
-{
-    if c.is_control() {
-        let code = c as u32 as u8;
-        return write_bytes(output, &[b'\\', b'x', digit(code / 16), digit(code % 16)]);
-    }
-    if c == '\\' {
-        return write_bytes(output, b"\\\\");
-    }
-    write_bytes(output, c.encode_utf8(&mut [0; 4]).as_bytes())
-}
-
-// A digit of a hexadecimal number.
-fn digit(n: u8) -> u8
-    requires { n < 16 }
-    ensures { result ≡ digit n }
-{
-    if n < 10 { b'0' + n } else { b'a' - 10 + n }
-}
-
-/// Writes a line for each row, up to the first whose name [breaks it](View::breaks_line), and flushes `output` after
-/// the last. No clause says that it is flushed. `row` is memory for a row.
-///
-/// # Errors
-/// The errors of the store. A prefix of these lines is written then.
-pub fn write_rows<S: Store, W: Write>(
-    store: &mut S,
-    row: &mut Row,
-    view: View,
-    output: &mut W,
-) -> Result<Written, StoreError>
-    requires { IsHonest S.Store store.old → (S.Store.view store.old).shape 0 ≡ Index plain }
-    ensures shows { (names : Texts) → AreTexts names → Sees (S.Store.view store.old) names →
-        IsHonest S.Store store.new → MatchResult result
-        (AreWritten view names (W.contents output.old) (W.contents output.new))
-        (λ _. AreCut view names (W.contents output.old) (W.contents output.new)) }
-    ensures reads { (names : Texts) → AreTexts names →
-        (IsHonest S.Store store.old → Sees (S.Store.view store.old) names) →
-        Writes S.Store store.old store.new names names ⊥ (done_of result) }
-{
-    row.clear();
-    store.seek(0, ACCOUNTS, row, Direction::Forward)?;
-    for _ in 0..u64::MAX {
-        if !store.next(0, row)? {
-            return Ok(outcome(output.flush()));
-        }
-        match write_line(row, view, output) {
-            Some(Written::All) => {}
-            Some(stopped) => return Ok(stopped),
-            None => return Err(StoreError::Corrupt),
-        }
     }
     // No file has that many rows.
     Err(StoreError::OutOfMemory)

@@ -1,4 +1,4 @@
-//! Writing rows.
+//! Changing the rows of names, in a transaction.
 #![tactic(auto, using(crate::proofs::TableLemmas::kept))]
 
 ghost use Rattle.std.specs.Prelude.{◌≡◌, Any, Err, None, Some, IfErr, IsUtf8, OnOk, map};
@@ -45,7 +45,7 @@ impl From<StoreError> for AddError {
 }
 
 /// The most bytes of a new name, and of its text.
-pub const LONGEST: usize = 4096;
+pub const MAX_LEN: usize = 4096;
 
 // Writes the row of a name that has none, however long it is.
 fn put<S: Store>(store: &mut S, row: &mut Row, name: &str, text: &str) -> Result<(), StoreError>
@@ -64,7 +64,8 @@ fn put<S: Store>(store: &mut S, row: &mut Row, name: &str, text: &str) -> Result
 /// Writes the row of a new name. `row` is memory for a row.
 ///
 /// # Errors
-/// [`StoreError::Unstorable`] if the name or the text has more than [`LONGEST`] bytes; those of the store, and out of memory.
+/// - [`StoreError::Unstorable`]: the name or the text has more than [`MAX_LEN`] bytes.
+/// - the errors of the store, and out of memory.
 pub fn insert<S: Store>(
     store: &mut S,
     row: &mut Row,
@@ -80,16 +81,16 @@ pub fn insert<S: Store>(
     ensures short { OnOk result (¬ IsLong (name.now, text.now)) }
     ensures text { IsUtf8 text.now }
 {
-    if name.len() > LONGEST || text.len() > LONGEST {
+    if name.len() > MAX_LEN || text.len() > MAX_LEN {
         return Err(StoreError::Unstorable);
     }
     put(store, row, name, text)
 }
 
-/// Removes the row of a name that has this text. `row` and `key` are memory for rows.
+/// Removes the row of a name with this text. `row` and `key` are memory for rows.
 ///
 /// # Errors
-/// - [`StoreError::Corrupt`]: the name still has a row, since the rows are out of order, or it had two.
+/// - [`StoreError::Corrupt`]: the name still has a row, because it had two rows, or the rows are out of order.
 /// - the errors of the store, and out of memory.
 pub fn remove<S: Store>(
     store: &mut S,
@@ -113,7 +114,8 @@ pub fn remove<S: Store>(
     }
 }
 
-/// Writes the row of a name in the place of the one with the text `old`. `row` and `key` are memory for rows.
+/// Writes a row of a name with the text `new` in the place of the row with the text `old`. `row` and `key` are memory for
+/// rows.
 ///
 /// # Errors
 /// The errors of [`remove`], and [`StoreError::Unstorable`] if the row would have more than a billion bytes.
@@ -136,12 +138,12 @@ pub fn replace<S: Store>(
     put(store, row, name, new)
 }
 
-/// Writes the rows of new names with their texts, up to the first that has a row. If one has a row, the caller removes
-/// what was written: no clause says what that is. `row` and `key` are memory for rows.
+/// Writes the rows of new names with their texts, up to the first name that has a row. If a name has a row, the caller
+/// removes what was written: no clause describes it. `row` and `key` are memory for rows.
 ///
 /// # Errors
 /// - [`AddError::Taken`]: a name has a row.
-/// - [`AddError::Store`]: those of the store, and out of memory.
+/// - [`AddError::Store`]: the errors of the store, and out of memory.
 pub fn add_each<S: Store>(
     store: &mut S,
     row: &mut Row,
@@ -158,7 +160,7 @@ pub fn add_each<S: Store>(
     let mut is_last = false;
     let mut last: &[u8] = &[];
     for (k, &(name, text)) in new.iter().enumerate() {
-        // A name that comes after the last one, and that after all others, is not looked up.
+        // No look-up is needed if the last name comes after all others, and this name after the last.
         if !(is_last && last.cmp(&name.as_bytes()).is_lt()) {
             match find(store, row, key, name)? {
                 Found::Name => return Err(AddError::Taken(k)),
@@ -182,7 +184,7 @@ pub fn undo<S: Store>(store: &mut S)
     store.rollback();
 }
 
-/// Removes what a call that only reads has left in the transaction, if it has failed.
+/// Removes what a failed call that only reads has left in the transaction.
 pub fn undo_failed<S: Store, X>(store: &mut S, done: &Result<X, StoreError>)
     ensures { EndsRead S.Store store.old store.new done.now }
 {
@@ -194,7 +196,7 @@ pub fn undo_failed<S: Store, X>(store: &mut S, done: &Result<X, StoreError>)
 /// Commits what was written, or removes it if writing has failed.
 ///
 /// # Errors
-/// That of writing, or those of the commit.
+/// The error of writing, or the errors of the commit.
 pub fn finish<S: Store>(store: &mut S, done: Result<(), StoreError>) -> Result<(), StoreError>
     ensures finishes { Finishes S.Store store.old store.new done result }
     ensures failed { IfErr done (λ e. result ≡ Err e) }

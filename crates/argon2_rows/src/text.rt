@@ -5,7 +5,7 @@ ghost use Rattle.argon2_base.specs.PhcFields.{phc_of};
 ghost use Rattle.argon2_base.specs.PhcText.{IsPhcText};
 ghost use Rattle.argon2_base.specs.declared.error.password_hash.Error.TheVariants.{EncodingInvalid};
 ghost use Rattle.argon2_schemes.specs.Locks.{without_lock};
-ghost use Rattle.argon2_rows.specs.StoredTexts.{IsLine, IsStored};
+ghost use Rattle.argon2_rows.specs.RowTexts.{IsLine, IsStored};
 
 use argon2_base::error::password_hash::Result;
 use argon2_base::phc::PasswordHash;
@@ -21,10 +21,10 @@ pub struct StoredText<'a> {
 impl<'a> StoredText<'a> {
     ghost use Rattle.argon2_rows.specs.Names.{text_in};
 
-    /// A text with what it says, without a `!` before it.
+    /// A PHC text, perhaps after `!`, and what the PHC text says.
     ///
     /// # Errors
-    /// `EncodingInvalid`: it is outside the grammar of PHC texts, also after `!`.
+    /// `EncodingInvalid`: neither the text nor what stands after its `!` is in the grammar of PHC texts.
     pub fn new(text: &'a str) -> Result<(StoredText<'a>, PasswordHash)>
         ensures found { IfOk result (λ it. (text_in it.0 ≡ text.now)
             × IsPhcText (without_lock text.now) (phc_of it.1)) }
@@ -34,7 +34,7 @@ impl<'a> StoredText<'a> {
         Ok((StoredText { text }, hash))
     }
 
-    /// A text of any scheme, if it is one line.
+    /// A text of any scheme, if the text is one line.
     pub fn of_line(text: &'a str) -> Option<StoredText<'a>>
         ensures { MatchOption result (¬ IsLine text.now) (λ it. text_in it ≡ text.now) }
     {

@@ -1,33 +1,34 @@
-//! What is written of accounts.
+//! Views of names, and how far the lines of a view are written.
 
 ghost use Rattle.std.specs.Prelude.{◌≡◌};
-ghost use Rattle.argon2_rows.specs.Rows.{breaks_line};
+ghost use Rattle.argon2_rows.specs.Lines.{breaks_line};
 
 use std::io;
 
-/// What is written of accounts, a line for each name.
+/// What the line of each name shows.
 #[derive(Clone, Copy, Debug)]
 pub enum View {
-    /// The names, so that a terminal acts on none of their characters: a control character is shown as `\x` and
-    /// the two digits of its code, as `\x1b`, and `\` twice.
+    /// The name, without a character that a terminal acts on: a control character is shown as `\x` and the two digits of
+    /// its code, such as `\x1b`, and `\` is shown twice.
     Names,
-    /// The names with their texts: a name, a colon and a text.
+    /// The name, a colon and the text.
     Export,
 }
 
 /// How far lines were written.
 #[derive(Clone, Copy, Debug)]
 pub enum Written {
-    /// All of them.
+    /// All lines.
     All,
-    /// Those before the first whose name [breaks it](View::breaks_line).
+    /// The lines before the first name that [breaks its line](View::breaks_line).
     Breaks,
-    /// A prefix of those before that name, perhaps not to the end of a line: then writing failed.
+    /// A prefix of these lines, which may end within a line: then writing failed.
     Failed(io::Error),
 }
 
 impl View {
-    /// Whether the line of a name with its text would read as that of another: the name has a line break or a colon.
+    /// Whether the line of a name would read as the line of another name: in an export, if the name has a line break or a
+    /// colon.
     pub fn breaks_line(self, name: &[u8]) -> bool
         ensures { result ≡ breaks_line self name.now }
     {

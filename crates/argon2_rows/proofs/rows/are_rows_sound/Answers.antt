@@ -1,5 +1,5 @@
 use Rattle.argon2_rows.proofs.Imports.{arith, ap, ◌∙◌, refl, sym, [], entries, entries_sorted, get-entries, IsHonest, Trees, from_key-none}
-use Rattle.argon2_rows.proofs.RowLemmas.{follow_rows, known}
+use Rattle.argon2_rows.proofs.RowLemmas.{FollowsEach-rows_of, names-of_read_rows}
 use Rattle.argon2_rows.proofs.rows.are_rows_sound.Goals as goal
 
 pub loop-init : goal.loop-init
@@ -9,7 +9,7 @@ pub returns-then-not-branch-clause-found : goal.returns-then-not-branch-clause-f
 returns-then-not-branch-clause-found g c ended =
     let fresh = λ (clean : IsHonest g.S.Store c.next.new.self). c.requires (search arith) in
     let (names, texts, lines, at) =
-    known (g.S.Store.view c.next.new.self).is_clean ((g.S.Store.view c.args.store.now).trees 0) (λ clean.
+    names-of_read_rows (g.S.Store.view c.next.new.self).is_clean ((g.S.Store.view c.args.store.now).trees 0) (λ clean.
     let first = fresh clean in
     let read = c.loop.invariant.2 (search arith) in
     let none = (rw c.if-not-branch.true at (c.in_ok-next.ensures.ok clean)).0 in
@@ -21,7 +21,7 @@ returns-then-not-is_account-clause-refused g c refused clean names texts lines i
     let settled = ap (λ (t : Trees). t 0) (c.requires (search arith)).settled in
     let reading = c.loop.invariant.2 (search arith) in
     let moves = rw c.if-not-branch.false at (c.in_ok-next.ensures.ok clean) in
-    let all = follow_rows [] (entries names) (entries_sorted names) (λ k v found.
+    let all = FollowsEach-rows_of [] (entries names) (entries_sorted names) (λ k v found.
     let has = get-entries names k ∙ found in let good = texts k v has in
     (((k, v), good.0, good.1, lines k v has, refl), λ same. absurd cc)) in
     grind arith

@@ -1,8 +1,8 @@
 use Rattle.argon2_rows.proofs.Imports.{◌<◌, ◌≡◌, arith, length, ℕ, List, refl, map, get, get_or-map, length-map, map_more, take, take-map, take_all, Any, entry_of, None, Some, Ok}
 use Rattle.argon2_rows.proofs.Imports.{IsLong, IsTrue, Texts, AddsAll, AreTexts, HasNoneAfter, IsHonest, Sees, Writes, changed, nat_list_cmp_total, tied_itself, bytes_eq-Decides}
-use Rattle.argon2_rows.proofs.AddLemmas.{add_last}
-use Rattle.argon2_rows.proofs.RowLemmas.{get-at, texts_changed}
-use Rattle.argon2_rows.proofs.TableLemmas.{err_is, keeps_index, writes_then}
+use Rattle.argon2_rows.proofs.AddLemmas.{AddsAll-last}
+use Rattle.argon2_rows.proofs.RowLemmas.{get-changed_any, AreTexts-changed}
+use Rattle.argon2_rows.proofs.TableLemmas.{err_is, index_shape-kept, Writes-trans}
 use Rattle.argon2_rows.proofs.table.add_each.Goals as goal
 use Rattle.argon2_rows.proofs.table.add_each.Goals.{After-insert, then-is_last, else-is_last, then-not-is_lt+in_ok-find+in-Later, then-not-is_lt+in_ok-find+in-End, else-not-is_lt}
 
@@ -12,7 +12,7 @@ none_after_new : (before : Texts) (name text : List ℕ) → HasNoneAfter before
 none_after_new before name text none later less =
     grind (
       arith,
-      get-at before name later (Some text),
+      get-changed_any before name later (Some text),
       bytes_eq-Decides later name,
       tied_itself nat_list_cmp_total name,
       none later less,
@@ -44,7 +44,7 @@ added g c before texts sees =
     let within : c.loop-k.k < length c.args.new.now = c.loop-k-test.true in (
       mid,
       fine,
-      writes_then (writes_then {R = ⊥} wrote looked.0 (λ never. never))
+      Writes-trans (Writes-trans {R = ⊥} wrote looked.0 (λ never. never))
           (rw c.as_str.ensures at (c.insert.ensures.writes mid (λ clean. (looked.1 clean).0)))
           (λ long. (c.loop-k.k, entry_of c.index-new-k.result, search (arith, length-map), grind (arith, get_or-map), long)),
       λ clean. let (none, last) = looked.1 clean in ((all (omega (arith, clean, looked.0.quiet.clean))).0, none, last),
@@ -59,7 +59,7 @@ returns-in_err-find g c before texts sees =
     let (mid, fine, all, wrote) = c.loop-k.invariant.1 before texts sees in
     let why = c.in_err-find.ensures in
     rw (err_is c.from_residual.result _ c.from_residual.ensures.1)
-    (mid, fine, writes_then {Q = ⊥} wrote (search (arith, why.err, why.cause)) (λ never. absurd never), λ clean. tt)
+    (mid, fine, Writes-trans {Q = ⊥} wrote (search (arith, why.err, why.cause)) (λ never. absurd never), λ clean. tt)
 
 pub returns-in-Name : goal.returns-in-Name
 returns-in-Name g c before texts sees =
@@ -68,7 +68,7 @@ returns-in-Name g c before texts sees =
     let found = c.in_ok-find.ensures.found mid in (
       mid,
       fine,
-      writes_then wrote (search arith) (λ never. absurd never),
+      Writes-trans wrote (search arith) (λ never. absurd never),
       λ clean. (
         mid,
         rw take-map (all (omega (arith, clean, c.find.ensures.quiet.clean))).0,
@@ -86,17 +86,17 @@ returns-in_err-insert g c before texts sees =
 
 pub loop-k-preserved : goal.loop-k-preserved
 loop-k-preserved g c = (
-  search (arith, keeps_index),
+  search (arith, index_shape-kept),
   λ before texts sees.
       let (mid, fine, wrote, all) = rw c.in_ok-insert.was at
       (added g (goal.at.loop-k-preserved g c).After-insert before texts sees) in (
         _,
-        texts_changed mid _ (Some _) fine (rw c.as_bytes-last.ensures.value at c.as_bytes-last.ensures.utf8) (search arith),
+        AreTexts-changed mid _ (Some _) fine (rw c.as_bytes-last.ensures.value at c.as_bytes-last.ensures.utf8) (search arith),
         λ clean.
             let within : c.loop-k.k < length c.args.new.now = c.loop-k-test.true in
             let (adds, none, last) = all (omega (arith, clean, c.insert.ensures.quiet.clean)) in (
               rw (map_more entry_of c.args.new.now c.loop-k.k c.index-new-k.result, ← c.index-new-k.is)
-                  (add_last _ before mid _ _ adds none refl),
+                  (AddsAll-last _ before mid _ _ adds none refl),
               λ is. rw c.as_bytes-last.ensures.value (none_after_new mid _ _ (last is)),
             ),
         wrote,

@@ -1,6 +1,6 @@
 use Rattle.argon2_rows.proofs.Imports.{◌≡◌, arith, get, changed, Some, None, Ok, Texts, IsHonest, Sees, Writes}
 use Rattle.argon2_rows.proofs.RowLemmas.{get-changed, remove_entry-rows_of}
-use Rattle.argon2_rows.proofs.TableLemmas.{writes_then}
+use Rattle.argon2_rows.proofs.TableLemmas.{Writes-trans}
 use Rattle.argon2_rows.proofs.table.remove.Goals as goal
 use Rattle.argon2_rows.proofs.table.remove.Goals.{After-find, In_ok-find}
 
@@ -18,7 +18,7 @@ returns-in-Name-clause-writes g c names has =
     let wrote = removed g (goal.at.returns-in-Name-clause-writes g c).After-find names has in
     let found = (rw c.in-Name.is at c.in_ok-find.ensures.found) after in
     let none = get-changed names c.args.name.now None in
-    writes_then wrote (search arith) (λ never. never)
+    Writes-trans wrote (search arith) (λ never. never)
 
 -- the look-up leaves what it finds
 looked : (g : _) (c : In_ok-find g) (names : Texts)
@@ -28,5 +28,5 @@ looked g c names = let is = c.in_ok-find.ensures in search (arith, is.same, is.s
 pub returns-in-Later-clause-writes : goal.returns-in-Later-clause-writes
 returns-in-Later-clause-writes g c names has =
     let place = goal.at.returns-in-Later-clause-writes g c in
-    writes_then (removed g place.After-find names has) (looked g place.In_ok-find (changed names c.args.name.now None))
+    Writes-trans (removed g place.After-find names has) (looked g place.In_ok-find (changed names c.args.name.now None))
     (λ never. never)

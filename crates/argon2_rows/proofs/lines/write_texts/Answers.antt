@@ -1,7 +1,7 @@
 use Rattle.argon2_rows.proofs.Imports.{[], ◌∷◌}
 use Rattle.std.proofs.Common.{append_assoc}
 use Rattle.argon2_io.proofs.Prefixes.{prefix_of_longer, text_and_prefix}
-use Rattle.argon2_rows.proofs.rows.write_texts.Goals as goal
+use Rattle.argon2_rows.proofs.lines.write_texts.Goals as goal
 
 pub returns-in-Export-clause-cut : goal.returns-in-Export-clause-cut
 returns-in-Export-clause-cut g c =

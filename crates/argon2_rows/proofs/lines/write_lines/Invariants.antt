@@ -1,6 +1,6 @@
 use Rattle.argon2_rows.proofs.Imports.{◌≡◌, AreTexts, IsSome, StaysQuiet, Texts, IsHonest, Sees}
 use Rattle.argon2_rows.proofs.LineLemmas.{IsWriting}
-use Rattle.argon2_rows.proofs.rows.write_rows.Given as goal
+use Rattle.argon2_rows.proofs.lines.write_lines.Given as goal
 
 abbrev pub invariant-loop : goal.invariant-loop
 invariant-loop g l = record {

@@ -1,5 +1,5 @@
 use Rattle.argon2_rows.proofs.Imports.{shown_char, Appends, flat_map}
-use Rattle.argon2_rows.proofs.rows.write_name.Given as goal
+use Rattle.argon2_rows.proofs.lines.write_name.Given as goal
 
 -- the characters so far are written
 abbrev pub invariant-loop-c : goal.invariant-loop-c

@@ -2,7 +2,7 @@ use Rattle.argon2_rows.proofs.Imports.{◌≡◌, ◌∙◌, sym, map-id, chars,
 use Rattle.std.proofs.lemmas.Iterator.{YieldsList-from_chars}
 use Rattle.std.proofs.lemmas.Iterator.Consumers.{YieldsList-end, YieldsList-so_far, YieldsList-turn}
 use Rattle.argon2_io.proofs.Prefixes.{prefix_of_each, whole_is_prefix}
-use Rattle.argon2_rows.proofs.rows.write_name.Goals as goal
+use Rattle.argon2_rows.proofs.lines.write_name.Goals as goal
 
 pub returns-in_err-write_char-clause-cut : goal.returns-in_err-write_char-clause-cut
 returns-in_err-write_char-clause-cut g c =
