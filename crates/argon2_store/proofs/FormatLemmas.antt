@@ -16,31 +16,33 @@ use Rattle.sqlite_wal.specs.Outcome.{HasCause}
 use Rattle.sqlite_wal.specs.Recovery.{AreFramesOf, frame_at, frames_len}
 use Rattle.sqlite_wal.specs.declared.error.Error.TheVariants.{Io, OutOfMemory, Closed, NoSuchPage, Full, Corrupt, Exists}
 
--- what recovery takes of a log
-takes : (size : ℕ) (log numbers : List ℕ) → AreFramesOf size log numbers → Takes size log numbers
-takes size log numbers (inl (ignored, none), each) = (inl (ignored, none), λ i low. absurd (omega (arith, none, low)))
-takes size log numbers (inr (taken, last), each) = (inr (taken, last), λ i low. (each i low, taken.valid i low))
+-- the frames that are listed are those that recovery reads
+Takes-AreFramesOf : (size : ℕ) (log numbers : List ℕ) → AreFramesOf size log numbers → Takes size log numbers
+Takes-AreFramesOf size log numbers (inl (ignored, none), each) = (inl (ignored, none), λ i low. absurd (omega (arith, none, low)))
+Takes-AreFramesOf size log numbers (inr (taken, last), each) = (inr (taken, last), λ i low. (each i low, taken.valid i low))
 
--- 64 bytes at the beginning of a page
-front : (file head first : List ℕ) (at : ℕ) → Holds file at head → length head ≡ 64 → part file at 4096 ≡ first → length first
+-- the first 64 bytes of a page are what the file holds there
+take-part : (file head first : List ℕ) (at : ℕ) → Holds file at head → length head ≡ 64 → part file at 4096 ≡ first → length first
     ≡ 4096
     → take 64 first ≡ head
 unfolding part
-front file head first at held len is whole =
+take-part file head first at held len is whole =
     let within = part_within file at 4096 (omega arith) (ap length is ∙ whole) in
     ap (take 64) (sym is) ∙ part-part file at 4096 0 64 within (omega arith)
     ∙ held_is_part file head (at + 0) 64 (subst (λ n. Holds file n head) (omega arith) held) len
 
--- the header that was read is that of the pages
+-- the header that was read is the header of the pages
 abbrev pub IsHead : PageMap → List ℕ → Type 0
 IsHead pages head = (take 16 (header_in pages) ≡ take 16 head) × (version_in pages ≡ user_version head)
 
-there : (o : Option (List ℕ)) → IsSome o → o ≡ Some (unwrap_or o [])
-there None some = absurd cc
-there (Some x) some = refl
+-- an option with a value is Some of its value
+unwrap-IsSome : (o : Option (List ℕ)) → IsSome o → o ≡ Some (unwrap_or o [])
+unwrap-IsSome None some = absurd cc
+unwrap-IsSome (Some x) some = refl
 
-same_version : (first head : List ℕ) → take 64 first ≡ head → user_version (take 100 first) ≡ user_version head
-same_version first head same_front =
+-- the version of a header is in its first 64 bytes
+user_version-take : (first head : List ℕ) → take 64 first ≡ head → user_version (take 100 first) ≡ user_version head
+user_version-take first head same_front =
     let same = λ (i : ℕ) (low : i < 64). get_or-take 100 first i 0 (omega (arith, low)) ∙ sym (get_or-take 64 first i 0 low)
     ∙ ap (λ (l : List ℕ). slice_index l i) same_front in
     let a = same 60 (omega arith) in
@@ -49,86 +51,94 @@ same_version first head same_front =
     let d = same 63 (omega arith) in
     cc
 
-head_of_page : (stored pages : PageMap) (first head : List ℕ) → trimmed 4096 stored ≡ pages → stored 1 ≡ Some first
+-- the first 64 bytes of the first page are the header of the pages
+IsHead-page : (stored pages : PageMap) (first head : List ℕ) → trimmed 4096 stored ≡ pages → stored 1 ≡ Some first
     → length first ≡ 4096
     → take 64 first ≡ head → IsHead pages head
 unfolding trimmed
-head_of_page stored pages first head shows is whole begins =
+IsHead-page stored pages first head shows is whole begins =
     let page : pages 1 ≡ Some first =
     ap (λ (p : PageMap). p 1) (sym shows) ∙ ap (option_map (take 4096)) is
     ∙ ap Some (ap (λ n. take n first) (sym whole) ∙ take-length first) in
     let bytes = ap (λ (o : Option (List ℕ)). unwrap_or o []) page in (
       ap (λ l. take 16 (take 100 l)) bytes ∙ take-take 16 100 first (omega arith) ∙ sym (take-take 16 64 first (omega arith))
           ∙ ap (take 16) begins,
-      ap (λ l. user_version (take 100 l)) bytes ∙ same_version first head begins,
+      ap (λ l. user_version (take 100 l)) bytes ∙ user_version-take first head begins,
     )
 
 module _ (image : Image) (numbers : List ℕ) (frames : AreFramesOf 4096 image.log numbers) (pages : PageMap)
     (recs : Recovers 4096 image pages) where
+  -- the first page
   abbrev first : List ℕ
   first = unwrap_or (recs.stored 1) []
 
-  is_first : recs.stored 1 ≡ Some first
-  is_first = there (recs.stored 1) recs.whole.first
+  -- recovery gives the first page
+  first-stored : recs.stored 1 ≡ Some first
+  first-stored = unwrap-IsSome (recs.stored 1) recs.whole.first
 
-  whole : length first ≡ 4096
-  whole = recs.whole.sized 1 first is_first
+  -- the first page has 4096 bytes
+  first-length : length first ≡ 4096
+  first-length = recs.whole.sized 1 first first-stored
 
-  pub in_log : (i : ℕ) (head : List ℕ) → IsLatest numbers 1 i → Holds image.log (56 + i * 4120) head → length head ≡ 64
+  -- 64 bytes of the last frame with the first page are the header of the pages
+  pub IsHead-in_log : (i : ℕ) (head : List ℕ) → IsLatest numbers 1 i → Holds image.log (56 + i * 4120) head → length head ≡ 64
       → IsHead pages head
   unfolding frames_len
-  in_log i head last held len =
+  IsHead-in_log i head last held len =
       let page = first_in_log 4096 image numbers
-      (takes 4096 image.log numbers frames) recs.stored first recs.found is_first i last in
+      (Takes-AreFramesOf 4096 image.log numbers frames) recs.stored first recs.found first-stored i last in
       let at : frame_at 4096 i + 24 ≡ 56 + i * 4120 = omega arith in
-      head_of_page recs.stored pages first head recs.shows is_first whole
-      (front image.log head first (56 + i * 4120) held len (ap (λ n. part image.log n 4096) (sym at) ∙ page) whole)
+      IsHead-page recs.stored pages first head recs.shows first-stored first-length
+      (take-part image.log head first (56 + i * 4120) held len (ap (λ n. part image.log n 4096) (sym at) ∙ page) first-length)
 
-  page_in_file : ((i : ℕ) → i < length numbers → slice_index numbers i ≢ 1) → part image.db 0 4096 ≡ first
-  page_in_file none = first_in_file 4096 image numbers
-      (takes 4096 image.log numbers frames) recs.stored first recs.found is_first none
+  -- if no frame has the first page, it is the beginning of the database file
+  first-in_file : ((i : ℕ) → i < length numbers → slice_index numbers i ≢ 1) → part image.db 0 4096 ≡ first
+  first-in_file none = first_in_file 4096 image numbers
+      (Takes-AreFramesOf 4096 image.log numbers frames) recs.stored first recs.found first-stored none
 
-  pub in_file : ((i : ℕ) → i < length numbers → slice_index numbers i ≢ 1) → (head : List ℕ) → Holds image.db 0 head
+  -- if no frame has the first page, 64 bytes of the database file are the header of the pages
+  pub IsHead-in_file : ((i : ℕ) → i < length numbers → slice_index numbers i ≢ 1) → (head : List ℕ) → Holds image.db 0 head
       → length head ≡ 64
       → IsHead pages head
-  in_file none head held len =
-      head_of_page recs.stored pages first head recs.shows is_first whole
-      (front image.db head first 0 held len (page_in_file none) whole)
+  IsHead-in_file none head held len =
+      IsHead-page recs.stored pages first head recs.shows first-stored first-length
+      (take-part image.db head first 0 held len (first-in_file none) first-length)
 
-  pub is_long : ((i : ℕ) → i < length numbers → slice_index numbers i ≢ 1) → 4096 ≤ length image.db
-  is_long none = let within = part_within image.db 0 4096 (omega arith) (ap length (page_in_file none) ∙ whole)
+  -- if no frame has the first page, the database file has at least a page
+  pub file-length : ((i : ℕ) → i < length numbers → slice_index numbers i ≢ 1) → 4096 ≤ length image.db
+  file-length none = let within = part_within image.db 0 4096 (omega arith) (ap length (first-in_file none) ∙ first-length)
       in omega (arith, within)
 
--- what the number in the header that was read says of the pages
-pub known : (pages : PageMap) (head : List ℕ) (format : ℕ) → IsHead pages head
+-- the number in the header that was read is the version of the pages
+pub IsHead-HasVersion : (pages : PageMap) (head : List ℕ) (format : ℕ) → IsHead pages head
     → (format ≢ 0 → take 16 head ≡ codes "SQLite format 3" ++ 0 ∷ [])
     → (take 16 head ≡ codes "SQLite format 3" ++ 0 ∷ [] → format ≡ user_version head)
     → (format ≢ 0 → HasVersion pages format) × ((n : ℕ) → n ≢ 0 → HasVersion pages n → format ≡ n)
-known pages head format is named found = (
+IsHead-HasVersion pages head format is named found = (
   λ some. (is.0 ∙ named some, is.1 ∙ sym (found (named some))),
   λ n some has. found (sym is.0 ∙ has.0) ∙ sym is.1 ∙ has.1,
 )
 
--- a log of files that recover is refused only if it is too long, or for the disk or memory
-pub refused : {D : Type 0} (g : Ghosts D) (old new : D × D) (k : ℕ) → Replays 4096 (g.seen old.0) k → (e : LogError)
+-- a log of files that recover is refused only if it is too long, or because of the disk or of memory
+pub IsOfFormat-RefusesLog : {D : Type 0} (g : Ghosts D) (old new : D × D) (k : ℕ) → Replays 4096 (g.seen old.0) k → (e : LogError)
     → HasCause (g.faults old.0) (g.faults new.0) (RefusesLog 4096 (g.seen old.0)) e
     → (n : ℕ) → IsOfFormat g old new n (log_error e)
-refused g old new k replays (Io e) cause n = inl cause
-refused g old new k replays OutOfMemory cause n = tt
-refused g old new k replays Closed (inl (is, none)) n = absurd cc
-refused g old new k replays Closed (inr (is, none)) n = absurd cc
-refused g old new k replays NoSuchPage (inl (is, none)) n = absurd cc
-refused g old new k replays NoSuchPage (inr (is, none)) n = absurd cc
-refused g old new k replays Full (inl (is, none)) n = absurd cc
-refused g old new k replays Full (inr (is, long)) n = long
-refused g old new k replays Corrupt (inl (is, none)) n = absurd (none k replays)
-refused g old new k replays Corrupt (inr (is, none)) n = absurd cc
-refused g old new k replays Exists (inl (is, none)) n = absurd cc
-refused g old new k replays Exists (inr (is, none)) n = absurd cc
+IsOfFormat-RefusesLog g old new k replays (Io e) cause n = inl cause
+IsOfFormat-RefusesLog g old new k replays OutOfMemory cause n = tt
+IsOfFormat-RefusesLog g old new k replays Closed (inl (is, none)) n = absurd cc
+IsOfFormat-RefusesLog g old new k replays Closed (inr (is, none)) n = absurd cc
+IsOfFormat-RefusesLog g old new k replays NoSuchPage (inl (is, none)) n = absurd cc
+IsOfFormat-RefusesLog g old new k replays NoSuchPage (inr (is, none)) n = absurd cc
+IsOfFormat-RefusesLog g old new k replays Full (inl (is, none)) n = absurd cc
+IsOfFormat-RefusesLog g old new k replays Full (inr (is, long)) n = long
+IsOfFormat-RefusesLog g old new k replays Corrupt (inl (is, none)) n = absurd (none k replays)
+IsOfFormat-RefusesLog g old new k replays Corrupt (inr (is, none)) n = absurd cc
+IsOfFormat-RefusesLog g old new k replays Exists (inl (is, none)) n = absurd cc
+IsOfFormat-RefusesLog g old new k replays Exists (inr (is, none)) n = absurd cc
 
--- a frame that recovery takes lies within the log
-pub within : (log numbers : List ℕ) → AreFramesOf 4096 log numbers → (i : ℕ) → i < length numbers
+-- a frame that recovery reads lies within the log
+pub frame-within : (log numbers : List ℕ) → AreFramesOf 4096 log numbers → (i : ℕ) → i < length numbers
     → 32 + (i + 1) * 4120 ≤ length log
 unfolding frames_len
-within log numbers (inl (ignored, none), each) i low = absurd (omega (arith, none, low))
-within log numbers (inr (taken, last), each) i low = let it = (taken.valid i low).within in omega (arith, it)
+frame-within log numbers (inl (ignored, none), each) i low = absurd (omega (arith, none, low))
+frame-within log numbers (inr (taken, last), each) i low = let it = (taken.valid i low).within in omega (arith, it)

@@ -33,9 +33,9 @@ pub use Rattle.argon2_rows.specs.Table.{Changes, HasFailed, HasRows, HoldsTable,
 pub use Rattle.argon2_rows.specs.Rows.{AreLines, AreTexts, rows_of}
 pub use Rattle.argon2_rows.specs.Table.{doubt, IsKept, StoreError, Index, Ghosts, Trees, catalog_tree, IsClean, plain}
 pub use Rattle.argon2_rows.specs.Names.{AddsAll, IsFirstTaken, Texts, changed, entry_of}
-pub use Rattle.argon2_rows.proofs.RowLemmas.{rows_of-once, get-at, changed_back, long_if_huge, texts_changed}
-pub use Rattle.argon2_rows.proofs.TableLemmas.{IsSettled, Keeps, err_is, leaves_quiet, on_all, quiet_itself, has_same, some_kept, changes_of, has_either, reads_keep, shape_of, taken_back, writes_more}
-pub use Rattle.argon2_store.specs.AccountFile.{Answers, IsClosed, IsErrorAt, Makes, Serves, Stays, error_of, database_of, HasNames, IsReady, HasCause, HasFailedBy, NamesStay, AccountFile}
-pub use Rattle.argon2_store.specs.Edits.{AddsShortName, IsOverlong, IsTooLong, NamedEdit, adding, additions, gives, left_by, name_of, named_edit, names_after, refusal}
+pub use Rattle.argon2_rows.proofs.RowLemmas.{rows_of-injective, get-changed_any, changed-restores, IsLong-IsHuge, AreTexts-changed}
+pub use Rattle.argon2_rows.proofs.TableLemmas.{IsSettled, KeepsRows, err_is, crash_leaves-quiet, OnOk-constant, StaysQuiet-refl, HasRows-same_view, HasSome-map, Changes-Finishes, HasRows-Changes, KeepsRows-EndsRead, index_shape-HasSome, HasRows-undo, Writes-map}
+pub use Rattle.argon2_store.specs.AccountFile.{Answers, IsClosed, IsErrorAt, EditsText, Makes, Serves, Stays, error_of, database_of, HasNames, IsReady, HasCause, HasFailedBy, NamesStay, AccountFile}
+pub use Rattle.argon2_store.specs.Edits.{AddsShortName, IsOverlong, IsTooLong, EditValue, NamedEdit, adding, additions, edit_value, gives, left_by, names_after, refusal}
 pub use Rattle.argon2_store.specs.Errors.{log_error, call_error, is_refusal, read_of, IsOfDatabase, lines_by, read_by, FileError, Closed, NameTaken, OutOfMemory, OpenError}
 pub use Rattle.argon2_store.specs.Runs.{AreEventsOf, AreMade, DoAll, Does, EndsRun, FileCall, FileEvent, FileRun, IsFoundAfter, IsLate, IsLateOf, IsShutOut, events_of, makes, over_file, reads, text_by}

@@ -1,48 +1,51 @@
 -- What calls make of a file, and what an open finds after them.
 use Rattle.argon2_store.proofs.Imports.{arith, ◌≡◌, ◌⊎◌, ℕ, List, [], ◌∷◌, ◌++◌, Result, Ok, Err, inl, inr, refl, sym, subst, ◌∙◌, append_assoc, cases_Bool, empty, get, ∥∥₁_elim}
 use Rattle.argon2_store.proofs.Imports.{∥∥₁_map, flat_map, SeenMayStay, settled_at, FileStore, Trees, Ghosts, bytes_eq-Decides, Answers, Texts, IsClosed, database_of, NamedEdit}
-use Rattle.argon2_store.proofs.Imports.{gives, left_by, names_after, name_of, is_refusal, AreEventsOf, AreMade, DoAll, Does, EndsRun, FileEvent, FileCall, IsFoundAfter, IsLate}
+use Rattle.argon2_store.proofs.Imports.{gives, left_by, names_after, is_refusal, AreEventsOf, AreMade, DoAll, Does, EndsRun, FileEvent, FileCall, IsFoundAfter, IsLate}
 use Rattle.argon2_store.proofs.Imports.{IsLateOf, IsShutOut, FileRun, events_of, makes, text_by, over_file, reads, IsHonest, IsOpen, CrashLeaves, AccountFile, FileError, HasNames, IsReady}
-use Rattle.argon2_store.proofs.Imports.{IsSettled, IsTableOf, get-at, rows_of-once, get-empty}
-use Rattle.argon2_store.proofs.NextOpenLemmas.{next_open}
-use Rattle.argon2_store.proofs.OpenLemmas.{left_table}
+use Rattle.argon2_store.proofs.Imports.{IsSettled, IsTableOf, get-changed_any, rows_of-injective, get-empty}
+use Rattle.argon2_store.proofs.NextOpenLemmas.{next_open-recovers}
+use Rattle.argon2_store.proofs.OpenLemmas.{IsTableOf-crash}
 use Rattle.sqlite_disk.specs.declared.Disk as disk
 
 -- ---- events
 
-run_then : (first mid last : Texts) (newer older : List FileEvent) → AreMade first older mid → AreMade mid newer last
+-- names that events made of names which earlier events made
+AreMade-then : (first mid last : Texts) (newer older : List FileEvent) → AreMade first older mid → AreMade mid newer last
     → AreMade first (newer ++ older) last
-run_then first mid last [] older earlier later = rw later earlier
-run_then first mid last (event ∷ newer) older earlier later = (later.0, run_then _ mid later.0 newer _ earlier later.1, later.2)
+AreMade-then first mid last [] older earlier later = rw later earlier
+AreMade-then first mid last (event ∷ newer) older earlier later =
+    (later.0, AreMade-then _ mid later.0 newer _ earlier later.1, later.2)
 
-texts_after : (edits : List NamedEdit) (names after : Texts) → names_after edits names ≡ Ok after → (name : List ℕ)
+-- the text of a name after edits is what these edits leave of its text
+get-names_after : (edits : List NamedEdit) (names after : Texts) → names_after edits names ≡ Ok after → (name : List ℕ)
     → get after name ≡ left_by name edits (get names name)
-texts_after [] names after is name = cc
-texts_after (edit ∷ edits) names after is name =
-    let at = get-at names (name_of edit) name (gives edit (get names (name_of edit))) in
-    grind (arith, texts_after edits, at, bytes_eq-Decides name (name_of edit))
+get-names_after [] names after is name = cc
+get-names_after ((edited, edit) ∷ edits) names after is name =
+    let at = get-changed_any names edited name (gives edit (get names edited)) in
+    grind (arith, get-names_after edits, at, bytes_eq-Decides name edited)
 
--- the text of each name is what its edits left
-pub texts_of_events : (events : List FileEvent) (names : Texts) → AreMade empty events names → (name : List ℕ)
+-- the text of a name after events on no names is what their edits left
+pub get-AreMade : (events : List FileEvent) (names : Texts) → AreMade empty events names → (name : List ℕ)
     → get names name ≡ text_by name events
-texts_of_events [] names is name = rw (is, get-empty)
-texts_of_events ((edits, Ok x) ∷ older) names (before, earlier, step) name =
-    grind (arith, texts_after edits before names step name, texts_of_events older before earlier name)
-texts_of_events ((edits, Err e) ∷ older) names (before, earlier, step) name =
-    grind (arith, texts_of_events older before earlier name)
+get-AreMade [] names is name = rw (is, get-empty)
+get-AreMade ((edits, Ok x) ∷ older) names (before, earlier, step) name =
+    grind (arith, get-names_after edits before names step name, get-AreMade older before earlier name)
+get-AreMade ((edits, Err e) ∷ older) names (before, earlier, step) name =
+    grind (arith, get-AreMade older before earlier name)
 
 -- ---- calls
 
--- what a call made of the names
-its_events : (before after : Texts) (edits : List NamedEdit) (result : Result (Unit {0}) FileError)
+-- the names after a call are what its events made of the names before it
+AreMade-Answers : (before after : Texts) (edits : List NamedEdit) (result : Result (Unit {0}) FileError)
     → Answers before edits result after
     → AreMade before (events_of (makes edits result)) after
-its_events before after edits (Ok x) is = (before, refl, is)
-its_events before after edits (Err e) is =
+AreMade-Answers before after edits (Ok x) is = (before, refl, is)
+AreMade-Answers before after edits (Err e) is =
     elim (cases_Bool (is_refusal e)) [ inl refused ↦ rw refused (before, refl, is) | inr of_file ↦ rw of_file is.1 ]
 
 module _ {S : Type 0} {g : Ghosts S} (settled : IsSettled g) (first : Texts) where
-  -- what these events made of the first names, and what a crash leaves: that, or some that come late too
+  -- The names that events made of the first names. A crash leaves these names, or the names with events that come late.
   pub record Reached (events : List FileEvent) (Late : List FileEvent → Type 0) (file : AccountFile S g) : Type 0 where
     pub names : Texts
     pub has : HasNames file names
@@ -52,15 +55,16 @@ module _ {S : Type 0} {g : Ghosts S} (settled : IsSettled g) (first : Texts) whe
 
   module _ (calls : List FileCall) (old new : AccountFile S g)
       (before : Reached (flat_map events_of calls) (IsLate calls) old) where
+    -- the events of the calls so far
     abbrev events : List FileEvent
     events = flat_map events_of calls
 
-    -- nothing comes late, or this call, or what came late of those before it, since it is shut out
+    -- nothing comes late, or this call, or what came late of the calls before it if this call was shut out
     abbrev IsLateNow : (List FileEvent → Type 0) → Type 0 → List FileEvent → Type 0
     IsLateNow Late Shut late = (late ≡ []) ⊎ (Late late ⊎ (Shut × IsLate calls late))
 
-    -- the names after the call, made by newer events, and a crash leaves them, or with some events that come late
-    reaches : (Late : List FileEvent → Type 0) (Shut : Type 0) (newer : List FileEvent) (after : Texts)
+    -- newer events that a call made are reached from the names before it
+    Reached-then : (Late : List FileEvent → Type 0) (Shut : Type 0) (newer : List FileEvent) (after : Texts)
         → HasNames new after → (IsHonest g (database_of new) → IsHonest g (database_of old))
         → (IsHonest g (database_of new) → AreMade before.names newer after)
         → (IsHonest g (database_of new) → IsOpen g (database_of old) → CrashLeaves g (database_of new)
@@ -68,9 +72,9 @@ module _ {S : Type 0} {g : Ghosts S} (settled : IsSettled g) (first : Texts) whe
         → (IsHonest g (database_of new) → IsClosed old → Shut × (newer ≡ [])
         × ((db : Trees) → g.recovers (database_of new) db → g.recovers (database_of old) db))
         → Reached (newer ++ events) (IsLateNow Late Shut) new
-    reaches Late Shut newer after has honest step crash closed =
+    Reached-then Late Shut newer after has honest step crash closed =
         let run = λ (clean : IsHonest g (database_of new)).
-        run_then first before.names after newer events (before.run (honest clean)) (step clean) in
+        AreMade-then first before.names after newer events (before.run (honest clean)) (step clean) in
         record {
           names = after;
           has = has;
@@ -81,7 +85,7 @@ module _ {S : Type 0} {g : Ghosts S} (settled : IsSettled g) (first : Texts) whe
               held,
               elim left [
                 | inl is ↦ ([], inl refl, rw is (run clean))
-                | inr more ↦ (more.0, inr (inl more.1), run_then _ after _ more.0 _ (run clean) more.2)
+                | inr more ↦ (more.0, inr (inl more.1), AreMade-then _ after _ more.0 _ (run clean) more.2)
               ],
             )
             | inr is_closed ↦ let (shut, none, was) = closed clean is_closed in
@@ -90,12 +94,13 @@ module _ {S : Type 0} {g : Ghosts S} (settled : IsSettled g) (first : Texts) whe
           ];
         }
 
-    pub one_more : (call : FileCall) → Does call old new
+    -- the events of one more call are reached
+    pub Reached-call : (call : FileCall) → Does call old new
         → Reached (events_of call ++ events) (IsLateNow (IsLateOf call) (IsShutOut call)) new
-    one_more (makes edits result) serve =
+    Reached-call (makes edits result) serve =
         let (after, does) = serve before.names before.has in
-        reaches (IsLateOf (makes edits result)) _ _ after does.has does.honest
-        (λ clean. its_events before.names after edits result (does.answers clean))
+        Reached-then (IsLateOf (makes edits result)) _ _ after does.has does.honest
+        (λ clean. AreMade-Answers before.names after edits result (does.answers clean))
         (λ clean is_open db found. let (left, held, is) = does.crash clean is_open db found in (
           left,
           held,
@@ -105,42 +110,46 @@ module _ {S : Type 0} {g : Ghosts S} (settled : IsSettled g) (first : Texts) whe
           ],
         ))
         (λ clean is_closed. let (shut, same) = does.closed (does.honest clean) is_closed in search arith)
-    one_more (reads error) stay =
+    Reached-call (reads error) stay =
         let does = stay before.names before.has in
-        reaches (λ late. ⊥) _ [] before.names does.has (search arith) (λ clean. refl)
+        Reached-then (λ late. ⊥) _ [] before.names does.has (search arith) (λ clean. refl)
         (λ clean is_open db found. let left = does.left clean is_open db found in (left.0, left.1, inl left.2))
         (λ clean is_closed. let shut = does.closed in search arith)
 
-  pub reached : (begun : AccountFile S g) → IsReady first begun → (calls : List FileCall) (last : AccountFile S g)
+  -- the events of all calls are reached from the file that was opened
+  pub Reached-DoAll : (begun : AccountFile S g) → IsReady first begun → (calls : List FileCall) (last : AccountFile S g)
       → DoAll calls begun last → Reached (flat_map events_of calls) (IsLate calls) last
-  reached begun ready [] last is = subst (Reached [] (IsLate [])) (sym is) (record {
+  Reached-DoAll begun ready [] last is = subst (Reached [] (IsLate [])) (sym is) (record {
     names = first;
     has = ready.has;
     run = λ clean. refl;
     left = λ clean db found. let (names, has, same) = ready.left clean db found in (names, has, ([], refl, same));
   })
-  reached begun ready (call ∷ older) last (mid, did, does) = search (arith, one_more, reached begun ready older mid did)
+  Reached-DoAll begun ready (call ∷ older) last (mid, did, does) =
+      search (arith, Reached-call, Reached-DoAll begun ready older mid did)
 
 -- ---- runs
 
-pub ends_run : {D : Type 0} (g : disk.Ghosts D) → SeenMayStay g → (last : AccountFile (FileStore D g) over_file) → EndsRun last
-ends_run {D} g stay last names first calls before ready did clean may =
-    let leaves = (reached {S = FileStore D g} {g = over_file}
+-- after any calls a crash leaves a table of the names, which an open finds
+pub run-EndsRun : {D : Type 0} (g : disk.Ghosts D) → SeenMayStay g → (last : AccountFile (FileStore D g) over_file) → EndsRun last
+run-EndsRun {D} g stay last names first calls before ready did clean may =
+    let leaves = (Reached-DoAll {S = FileStore D g} {g = over_file}
     (λ it. settled_at it stay) names first ready calls last did).left clean in
     let listed = λ (db : Trees) (found : over_file.recovers (database_of last) db). (leaves db found).1.1 in (
       λ opens left after next holds.
-          ∥∥₁_map (next_open {g = g} (database_of last) listed before may opens left after next holds) (λ found.
+          ∥∥₁_map (next_open-recovers {g = g} (database_of last) listed before may opens left after next holds) (λ found.
           let (left_names, held, late) = leaves found.0 found.1 in
-          (late.0, late.1, rw (rows_of-once left_names next (sym held.0 ∙ found.2.0)) at late.2)),
-      ∥∥₁_map (left_table {g = g} (database_of last) listed before may) (λ (db, can, table).
+          (late.0, late.1, rw (rows_of-injective left_names next (sym held.0 ∙ found.2.0)) at late.2)),
+      ∥∥₁_map (IsTableOf-crash {g = g} (database_of last) listed before may) (λ (db, can, table).
           let (left_names, held, late) = leaves db can in (left_names, subst (IsTableOf before) held.0 table, late)),
     )
 
-pub runs_join : (first : Texts) (runs : List FileRun) (names : Texts) → IsFoundAfter first runs names
+-- the names after runs are what the events of all runs made of the first names
+pub runs-AreMade : (first : Texts) (runs : List FileRun) (names : Texts) → IsFoundAfter first runs names
     → ∥ ((events : List FileEvent) × AreEventsOf runs events × AreMade first events names) ∥₁
-runs_join first [] names is = ∣ ([], refl, is) ∣₁
-runs_join first (run ∷ older) names (earlier, leaves, (opens, left, after, holds)) =
-    ∥∥₁_elim (runs_join first older run.found earlier) squash₁ (λ before.
+runs-AreMade first [] names is = ∣ ([], refl, is) ∣₁
+runs-AreMade first (run ∷ older) names (earlier, leaves, (opens, left, after, holds)) =
+    ∥∥₁_elim (runs-AreMade first older run.found earlier) squash₁ (λ before.
     ∥∥₁_map (leaves opens left after names holds) (λ now.
-    let made = run_then first run.found names (now.0 ++ flat_map events_of run.calls) before.0 before.2 now.2 in
+    let made = AreMade-then first run.found names (now.0 ++ flat_map events_of run.calls) before.0 before.2 now.2 in
     (_, (now.0, before.0, now.1, before.1, refl), rw append_assoc at made)))

@@ -20,7 +20,7 @@ pub use Rattle.argon2_store.specs.declared.error.OpenError.{OpenError}
 use Rattle.argon2_store.specs.declared.error.OpenError.TheVariants as no
 use Rattle.argon2_store.specs.declared.error.OpenError.TheVariants.{Path, Busy, HotJournal, LogWithoutFile, LogOfAnother, Format, NotAccounts}
 
--- what an error of the store is called
+-- the error of the file that stands for an error of the store
 abbrev pub file_error : StoreError → FileError
 file_error below.OutOfMemory = OutOfMemory
 file_error below.Io = Io
@@ -29,29 +29,30 @@ file_error below.Full = Full
 file_error below.Broken = Closed
 file_error below.Unstorable = TooLong
 
--- why a read or a change of an open file fails: only a disk that lies breaks it without an error
+-- The error of a call that reads or changes an open file. Without an earlier error only a wrong answer of the disk breaks the
+-- store, so that the file counts as damaged.
 abbrev pub call_error : StoreError → FileError
 call_error below.Broken = Damaged
 call_error e = file_error e
 
--- what a call answers that read or changed an open file
+-- the result of a call that read or changed an open file
 abbrev pub read_of : {X : Type 0} → Result X StoreError → Result X FileError
 read_of (Ok x) = Ok x
 read_of (Err e) = Err (call_error e)
 
--- what reading the file answered
+-- the result of reading the file, as lines were written
 abbrev pub read_by : Result (Unit {0}) LineError → Result (Unit {0}) FileError
 read_by (Err (File e)) = Err e
 read_by _ = Ok tt
 
--- what became of the lines of a file
+-- the result of writing the lines of a file
 abbrev pub lines_by : Result Written FileError → Result (Unit {0}) LineError
 lines_by (Ok All) = Ok tt
 lines_by (Ok written.Breaks) = Err Breaks
 lines_by (Ok (Failed e)) = Err (Write e)
 lines_by (Err e) = Err (File e)
 
--- the names refuse the call, which then writes nothing
+-- the error is a refusal: the names are the reason, and nothing was written
 abbrev pub is_refusal : FileError → Bool
 is_refusal NameTaken = true
 is_refusal NameUnknown = true
@@ -59,7 +60,7 @@ is_refusal Changed = true
 is_refusal Locked = true
 is_refusal _ = false
 
--- what an open calls the errors below it
+-- the errors of an open that stand for the errors of the calls below it
 abbrev pub path_error : PathError → OpenError
 path_error (path.Io why) = Path why
 path_error path.OutOfMemory = no.OutOfMemory
@@ -84,7 +85,7 @@ store_error below.Io = no.Io
 store_error below.Full = no.Full
 store_error _ = NotAccounts
 
--- the errors of the database in them
+-- the error of the open is an error of the database
 abbrev pub IsOfDatabase : OpenError → Type 0
 IsOfDatabase no.OutOfMemory = ⊤
 IsOfDatabase no.Io = ⊤
@@ -96,22 +97,22 @@ IsOfDatabase _ = ⊥
 abbrev pub file_error_text : FileError → List ℕ
 file_error_text NameTaken = codes "name is taken"
 file_error_text NameUnknown = codes "name is unknown"
-file_error_text Changed = codes "text has changed"
+file_error_text Changed = codes "hash has changed"
 file_error_text Locked = codes "name is locked"
 file_error_text OutOfMemory = codes "out of memory"
 file_error_text Io = codes "the disk failed"
 file_error_text Damaged = codes "the file is damaged"
 file_error_text Full = codes "the disk or the file is full"
-file_error_text TooLong = codes "name or text is too long"
+file_error_text TooLong = codes "name or hash is too long"
 file_error_text Closed = codes "the file has to be opened again"
 
--- what an error of lines prints; of the system's own nothing is known
+-- what an error of writing lines prints; None is an error of the system, whose text no clause says
 abbrev pub line_error_text : LineError → Option (List ℕ)
 line_error_text (File e) = Some (file_error_text e)
 line_error_text Breaks = Some (codes "the line of a name would read as that of another")
 line_error_text (Write why) = None
 
--- what an error of an open prints; of the system's own nothing is known
+-- what an error of an open prints; None is an error of the system, whose text no clause says
 abbrev pub open_error_text : OpenError → Option (List ℕ)
 open_error_text (Path why) = None
 open_error_text Busy = Some (codes "the file is in use")
@@ -126,4 +127,4 @@ open_error_text no.DamagedLog = Some (codes "the log is damaged")
 open_error_text (Format n) = Some
     (codes "the file has format " ++ decimal n ++ codes ", not 0: use the release that made it, or export with that and import")
 open_error_text NotAccounts = Some (codes "the file does not hold accounts")
-open_error_text no.Row = Some (codes "a row is not a name with a text")
+open_error_text no.Row = Some (codes "a row is not a name with a hash")

@@ -1,4 +1,4 @@
--- What opening a file finds.
+-- What an open finds in the files, and how it fails.
 use Rattle.std.specs.Prelude.{◌≡◌, ◌≢◌, ◌⊎◌, ◌≤◌, ⊤, ℕ, List, [], ◌∷◌, ◌++◌, All, codes, length, slice_index, take, IsTrue}
 pub use Rattle.sqlite_value.specs.Order.{Row, column}
 use Rattle.sqlite_disk.specs.declared.Disk.{Ghosts}
@@ -22,7 +22,7 @@ pub use Rattle.argon2_rows.specs.Table.{account}
 use Rattle.argon2_store.specs.Errors.{IsOfDatabase, OpenError}
 use Rattle.argon2_store.specs.declared.error.OpenError.TheVariants as no
 
--- there is no database yet, or one that lists no table
+-- there is no database yet, or the database lists no table
 abbrev pub IsUnstarted : ℕ → Image → Type 0
 IsUnstarted size image = IsBlankFile size image
     ⊎ ((pages : PageMap) × Recovers size image pages × IsSoundFile size pages × (rows_at size (in_use size pages) Table 1 ≡ []))
@@ -36,11 +36,11 @@ ListsOne size pages = length (rows_at size (in_use size pages) Table 1) ≡ 1
 abbrev pub IsTableRow : Row → Type 0
 IsTableRow row = column row 1 ∷ column row 2 ∷ column row 3 ∷ column row 5 ∷ [] ≡ account.row
 
--- a database with these rows in sqlite_schema may be one of accounts: it lists only their table, or nothing yet
+-- a database with these rows in sqlite_schema may hold accounts: it lists only their table, or nothing yet
 abbrev pub MayHoldAccounts : List Row → Type 0
 MayHoldAccounts rows = (length rows ≤ 1) × All IsTableRow rows
 
--- the files recover to a database of only that table, which has these rows, or there was no table and there are no rows
+-- the files recover to a database of only the accounts' table, with these rows, or there is no table yet and no row
 abbrev pub IsFoundIn : ℕ → Image → List Row → Type 0
 IsFoundIn size image rows =
     ((pages : PageMap) × Recovers size image pages × ∥ IsFile size (account ∷ []) pages ∥₁
@@ -51,65 +51,65 @@ IsFoundIn size image rows =
 abbrev pub HoldsNames : Image → Texts → Type 0
 HoldsNames image names = AreTexts names × IsFoundIn 4096 image (rows_of names)
 
--- The files recover to a sound database whose table this is, or to none that lists a table: what an open may suppose that reads
--- no more than it needs.
+-- The files recover to a sound database of the accounts' table, or no table was made yet. An open that does not check each page
+-- supposes this.
 abbrev pub AreSound : Image → Type 0
 AreSound image = ((pages : PageMap) × Recovers 4096 image pages × IsFile 4096 (account ∷ []) pages) ⊎ IsUnstarted 4096 image
 
--- such files whose rows are those of these names, each with a text of one line
+-- files that are sound so, with the rows of these names, each with a text of one line
 abbrev pub HoldSoundly : Image → Texts → Type 0
 HoldSoundly image names = AreTexts names × AreLines names
     × (((pages : PageMap) × Recovers 4096 image pages × IsFile 4096 (account ∷ []) pages
     × (file_trees 4096 (account ∷ []) pages 0 ≡ rows_of names))
     ⊎ (IsUnstarted 4096 image × (rows_of names ≡ [])))
 
--- the same, of some names
+-- the files hold some names soundly
 abbrev pub AreHeld : Image → Type 0
 AreHeld image = (names : Texts) × HoldSoundly image names
 
 -- ---- the format of the rows
 
--- the pages are those of a SQLite database, with this number in the header as its user_version
+-- a SQLite database has these pages, and this number in its header as its user_version
 abbrev pub HasVersion : PageMap → ℕ → Type 0
 HasVersion pages n = (take 16 (header_in pages) ≡ codes "SQLite format 3" ++ 0 ∷ []) × (version_in pages ≡ n)
 
--- The files recover to a database with this number, which says that its rows have another format. That of this release is 0, the
--- number in each file whose program does not set it.
+-- The files recover to a database with this number, which is not 0 and so says that its rows have another format. The format of
+-- this release is 0, the number in each file whose program sets none.
 abbrev pub HasOtherFormat : Image → ℕ → Type 0
 HasOtherFormat image n = (n ≢ 0) × ((pages : PageMap) × Recovers 4096 image pages × HasVersion pages n)
 
 -- ---- an open that fails
 
--- The log has room for a frame, and its header fails its test after the right first byte. That byte is taken away before the
--- others are written and comes back last, so by the kit's code no crash leaves this.
+-- The log has room for a frame, and its header has the right first byte, but fails its test. The kit clears that byte before it
+-- writes the others, and restores it last, so no crash leaves such a header.
 abbrev pub IsDamaged : List ℕ → Type 0
 IsDamaged log = (56 ≤ length log) × (slice_index log 0 ≡ 0x37) × (¬ IsSigned (header log))
 
--- the files recover to a database of only that table, whatever the size of a page, which has these rows
+-- the files recover to a database of only the accounts' table, with these rows, and with any size of a page
 abbrev pub IsTableOf : Image → List Row → Type 0
 IsTableOf image rows = (size : ℕ) × (schema : List Wanted) × (pages : PageMap) × IsPageSize (stored_size size)
     × Recovers size image pages × IsFile size schema pages × (listed_from 0 schema ≡ listed_from 0 (account ∷ []))
     × (file_trees size schema pages 0 ≡ rows)
 
--- An open may find these rows: those of the table, or none if there is no table yet.
+-- An open may find these rows: the rows of the table, or none if there is no table yet.
 abbrev pub MayHave : Image → List Row → Type 0
 MayHave image rows = IsTableOf image rows ⊎ (IsUnstarted 4096 image × (rows ≡ []))
 
--- What stands for two files: what stood for them before, or files that recover to the same pages, if they recover to any, or
--- that have the same rows.
+-- The files `left` stand for the files `before`: a crash might have left them before; or they recover to the same pages, if the
+-- files `before` recover to any; or they have the same rows.
 abbrev pub StandsFor : (Image → Type 0) → Image → Image → Type 0
 StandsFor was before left =
     was left
     ⊎ ((RecoversAs 4096 before left × (IsUnreadable 4096 before → was left))
     ⊎ ((rows : List Row) × ∥ IsFoundIn 4096 before rows ∥₁ × ∥ MayHave left rows ∥₁))
 
--- Whatever a crash leaves of the new log and database file stands for the old ones, while the disk has given no wrong answer
+-- Whatever a crash leaves of the new log and database file stands for the old files, while the disk has given no wrong answer
 -- that was taken as true.
 abbrev pub AreUnharmed : {D : Type 0} → Ghosts D → D × D → D × D → Type 0
 AreUnharmed g old new = AreClean g new.0 new.1 → (left : Image) → outcomes g new.0 new.1 left
     → StandsFor (outcomes g old.0 old.1) (seen_image g old.0 old.1) left
 
--- An open of files with a damaged log fails so: for that, or since the log can't be read.
+-- the error of an open of files with a damaged log: the damage, or that the log can't be read
 abbrev pub IsOfDamage : {D : Type 0} → Ghosts D → D → D → OpenError → Type 0
 IsOfDamage g old new e = (e ≡ no.DamagedLog) ⊎ ((e ≡ no.Io) × MoreFaults (g.faults old) (g.faults new))
 
@@ -117,12 +117,12 @@ IsOfDamage g old new e = (e ≡ no.DamagedLog) ⊎ ((e ≡ no.Io) × MoreFaults 
 abbrev pub HaveFailed : {D : Type 0} → Ghosts D → D × D → D × D → Type 0
 HaveFailed g old new = MoreFaults (g.faults old.0) (g.faults new.0) ⊎ MoreFaults (g.faults old.1) (g.faults new.1)
 
--- a log that has more frames of pages of 4096 bytes than an open takes, which are some 17 terabytes
+-- the log has more frames than an open can count, some 17 terabytes
 abbrev pub HasTooManyFrames : List ℕ → Type 0
 HasTooManyFrames log = frame_at 4096 0xffff_fffe ≤ length log
 
--- How an open of a database with this number fails, which leaves these two files: by the format, unless the log is damaged or too
--- long, the disk fails or memory runs out.
+-- the error of an open of a database with this number: the format, unless the log is damaged or too long, the disk fails, or
+-- memory runs out
 abbrev pub IsOfFormat : {D : Type 0} → Ghosts D → D × D → D × D → ℕ → OpenError → Type 0
 IsOfFormat g old new n (no.Format m) = m ≡ n
 IsOfFormat g old new n no.DamagedLog = ⊤
@@ -131,12 +131,12 @@ IsOfFormat g old new n no.Io = HaveFailed g old new
 IsOfFormat g old new n no.Full = HasTooManyFrames (g.seen old.0)
 IsOfFormat g old new n _ = ⊥
 
--- a crash leaves just what the two files hold
+-- a crash leaves exactly what the two files hold
 abbrev pub AreSynced : {D : Type 0} → Ghosts D → D × D → Type 0
 AreSynced g files = Only (g.seen files.0) (g.may_leave files.0) × Only (g.seen files.1) (g.may_leave files.1)
 
--- An open of a log and a database file has failed so: the log is damaged, their rows have another format, they hold no names with
--- texts of one line, or it is an error of the database. They are unharmed.
+-- How an open of a log and a database file fails: the log is damaged, the rows have another format, they are not the rows of
+-- names with texts of one line, or the database has an error. The files are unharmed.
 pub record IsOfPair {D : Type 0} (g : Ghosts D) (old new : D × D) (e : OpenError) : Type 0 where
   pub kind : (e ≡ no.Row) ⊎ ((e ≡ no.DamagedLog) ⊎ (((n : ℕ) × (e ≡ no.Format n)) ⊎ IsOfDatabase e))
   pub row : e ≡ no.Row → AreClean g new.0 new.1 → (names : Texts) → AreLines names
@@ -149,16 +149,16 @@ pub record IsOfPair {D : Type 0} (g : Ghosts D) (old new : D × D) (e : OpenErro
   pub other : AreClean g new.0 new.1 → (n : ℕ) → HasOtherFormat (seen_image g old.0 old.1) n → IsOfFormat g old new n e
   pub unharmed : AreUnharmed g old new
 
--- Opens that failed, the newest first, with the files that each found: the first found `before`, and each left files that stand
--- for those that it found. Files that have just been opened are synced, so a crash leaves just these. One during an open counts
--- as an open that fails there.
+-- A list of opens that failed, the newest first, each with the files that it found. The oldest open found `before`, each open
+-- left files that stand for the files that it found, and the newest left `left`. A crash during an open counts as an open that
+-- fails there, because files that have just been opened are synced.
 abbrev pub IsAfterOpens : List Image → Image → Image → Type 0
 IsAfterOpens [] before left = left ≡ before
 IsAfterOpens (found ∷ older) before left =
     IsAfterOpens older before found × StandsFor (λ image. image ≡ found) found left
 
--- What a crash leaves of files that were synced counts as one more open that failed, and an open finds there no other names than
--- before all of these.
+-- What a crash leaves of synced files counts as one more open that failed. An open finds no other names there than before all of
+-- these opens.
 abbrev pub LeavesNames : {D : Type 0} → Ghosts D → D × D → D × D → Type 0
 LeavesNames g old new = AreSynced g old → AreUnharmed g old new
     → AreClean g new.0 new.1 → (left : Image) → outcomes g new.0 new.1 left

@@ -1,4 +1,4 @@
--- Runs on an account file. Each run opens what the run before it left.
+-- Runs of programs on a file of accounts. Each run opens what the run before it left.
 use Rattle.std.specs.Prelude.{◌≡◌, ◌⊎◌, ℕ, List, [], ◌∷◌, ◌++◌, false, if◌then◌else◌, Option, Some, None, Result, Ok, Err}
 use Rattle.std.specs.FinMap.{empty, get}
 use Rattle.sqlite_disk.specs.declared.Disk as disk
@@ -10,17 +10,18 @@ use Rattle.argon2_store.specs.AccountFile.{Answers, IsReady, NamesStay, Serves, 
 use Rattle.argon2_store.specs.Edits.{NamedEdit, left_by}
 use Rattle.argon2_store.specs.Errors.{is_refusal, FileError, Closed}
 use Rattle.argon2_store.specs.Opening.{HoldsNames, IsAfterOpens, IsTableOf, Image}
-use Rattle.argon2_rows.specs.Rows.{rows_of, flat_map}
+use Rattle.argon2_rows.specs.Lines.{flat_map}
+use Rattle.argon2_rows.specs.Rows.{rows_of}
 
--- A call with its answer. A crash is a disk that does nothing more from then on, so a call that it cuts off is recorded
--- with the error that it would have returned.
+-- A call with its result. After a crash the disk does nothing more, so a call that the crash cuts off is recorded with the error
+-- that it would have returned.
 pub data FileCall : Type 0 where
   makes : List NamedEdit → Result (Unit {0}) FileError → FileCall
-  reads : Option FileError → FileCall  -- one that changes no name, with its error if it failed
+  reads : Option FileError → FileCall  -- a call that changes no name, with its error if it failed
 
--- ---- what calls made, the newest first
+-- ---- the events of calls, the newest first
 
--- edits that the names answer, with the answer
+-- edits, with a result that depends only on the names
 abbrev pub FileEvent : Type 0
 FileEvent = List NamedEdit × Result (Unit {0}) FileError
 
@@ -29,27 +30,27 @@ events_of (makes edits (Ok _)) = (edits, Ok tt) ∷ []
 events_of (makes edits (Err e)) = if is_refusal e then (edits, Err e) ∷ [] else []
 events_of (reads error) = []
 
--- the names after events
+-- events turn the names `first` into the names `last`
 abbrev pub AreMade : Texts → List FileEvent → Texts → Type 0
 AreMade first [] last = last ≡ first
 AreMade first (event ∷ older) last = (before : Texts) × AreMade first older before × Answers before event.0 event.1 last
 
--- A call with an error of the file may come late: its edits are in the file all the same, as if it had succeeded.
+-- What comes late of a call: if it had an error of the file, its edits may be in the file all the same, as if it had succeeded.
 abbrev pub IsLateOf : FileCall → List FileEvent → Type 0
 IsLateOf (makes edits (Err e)) late = (is_refusal e ≡ false) × (late ≡ (edits, Ok tt) ∷ [])
 IsLateOf _ late = ⊥
 
--- it was refused since the file was closed
+-- the call was refused because the file was closed
 abbrev pub IsShutOut : FileCall → Type 0
 IsShutOut (makes edits result) = result ≡ Err Closed
 IsShutOut (reads error) = error ≡ Some Closed
 
--- what comes late of calls, the newest first: nothing, or the last of them that was not shut out
+-- what comes late of calls, the newest first: nothing, or the last call that was not shut out
 abbrev pub IsLate : List FileCall → List FileEvent → Type 0
 IsLate [] late = late ≡ []
 IsLate (call ∷ older) late = (late ≡ []) ⊎ (IsLateOf call late ⊎ (IsShutOut call × IsLate older late))
 
--- the text that events leave a name that had none
+-- the text of a name after events, if it had none before
 abbrev pub text_by : List ℕ → List FileEvent → Option (List ℕ)
 text_by name [] = None
 text_by name ((edits, Ok _) ∷ older) = left_by name edits (text_by name older)
@@ -74,20 +75,22 @@ pub record FileRun : Type 0 where
   pub calls : List FileCall
   pub left : Image
 
--- these are the names as the calls of a run made them, with what came late
+-- the names as the calls of a run made them, with what came late
 abbrev pub AreLeft : FileRun → Texts → Type 0
 AreLeft run names = (late : List FileEvent) × IsLate run.calls late
     × AreMade run.found (late ++ flat_map events_of run.calls) names
 
--- An open finds what the run left: the names as its calls made them, and perhaps what came late. Before it, others may fail.
+-- An open after the run, perhaps after other opens that fail, finds the names as the calls made them, perhaps with what came
+-- late.
 abbrev pub IsFound : FileRun → Type 0
 IsFound run = (opens : List Image) (left : Image) → IsAfterOpens opens run.left left
     → (names : Texts) → HoldsNames left names → ∥ AreLeft run names ∥₁
 
--- there is something to find: the files have the table of such names
+-- the files have the table of such names, so an open can find them
 abbrev pub HasLeft : FileRun → Type 0
 HasLeft run = ∥ ((names : Texts) × IsTableOf run.left (rows_of names) × AreLeft run names) ∥₁
 
+-- an account file over the kit's `FileStore`
 abbrev pub over_file : {D : Type 0} {g : disk.Ghosts D} → Ghosts (FileStore D g)
 over_file = record {
   view = view;
@@ -99,7 +102,7 @@ over_file = record {
   names = NamesFault;
 }
 
--- Whatever calls led to the file, a crash leaves a table of names now, and an open finds these.
+-- Whatever calls led to the file, a crash at this moment leaves a table of names, which an open finds.
 abbrev pub EndsRun : {D : Type 0} {g : disk.Ghosts D} → AccountFile (FileStore D g) over_file → Type 0
 EndsRun last = (names : Texts) (first : AccountFile _ over_file) (calls : List FileCall) (left : Image) →
     IsReady names first → DoAll calls first last → IsHonest over_file (database_of last)
@@ -108,26 +111,26 @@ EndsRun last = (names : Texts) (first : AccountFile _ over_file) (calls : List F
 
 -- ---- runs
 
--- An open finds the names after runs, the newest first. Each found what the one before it left, after opens that failed, if
--- there were any, and the oldest found `first`.
+-- An open finds `names` after a list of runs, the newest first. Each run found what the run before it left, perhaps after opens
+-- that failed, and the oldest run found `first`.
 abbrev pub IsFoundAfter : Texts → List FileRun → Texts → Type 0
 IsFoundAfter first [] names = names ≡ first
 IsFoundAfter first (run ∷ older) names =
     IsFoundAfter first older run.found × IsFound run
     × ((opens : List Image) × (left : Image) × IsAfterOpens opens run.left left × HoldsNames left names)
 
--- the events of runs, with what came late of each
+-- the events of all runs, with what came late of each run
 abbrev pub AreEventsOf : List FileRun → List FileEvent → Type 0
 AreEventsOf [] events = events ≡ []
 AreEventsOf (run ∷ older) events = (late earlier : List FileEvent) × IsLate run.calls late × AreEventsOf older earlier
     × (events ≡ late ++ (flat_map events_of run.calls ++ earlier))
 
--- The names that an open finds after runs are what their events made of the first ones.
+-- The names that an open finds after runs are what the events of the runs made of the first names.
 abbrev pub NamesAreRun : Type 0
 NamesAreRun = (first : Texts) (runs : List FileRun) (names : Texts) → IsFoundAfter first runs names
     → ∥ ((events : List FileEvent) × AreEventsOf runs events × AreMade first events names) ∥₁
 
--- If these were none, each name has the text that its accepted edits left, one after the other, or none.
+-- If the first run found no names, each name has the text that its accepted edits left, in their order, or no text.
 abbrev pub TextsAreKept : Type 0
 TextsAreKept = (runs : List FileRun) (names : Texts) → IsFoundAfter empty runs names
     → ∥ ((events : List FileEvent) × AreEventsOf runs events

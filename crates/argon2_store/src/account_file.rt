@@ -1,17 +1,19 @@
 //! Accounts in a file.
 #![tactic(auto, using(crate::proofs::FileLemmas::answers))]
 
-ghost use Rattle.std.specs.Prelude.{◌≡◌, ◌≤◌, ◌↔◌, [], ◌∷◌, false, Err, IsTrue, IfErr, IfOk, OnOk, length, map, string_bytes};
+ghost use Rattle.std.specs.Prelude.{◌≡◌, ◌≤◌, ◌↔◌, ◌∷◌, false, Err, IsTrue, IfErr, IfOk, OnOk, length, map, string_bytes};
 ghost use Rattle.argon2_rows.specs.Names.{Texts, entry_of, get};
 ghost use Rattle.argon2_rows.specs.Table.{HasSome, IsHonest, IsOpen};
 ghost use Rattle.argon2_store.specs.Errors.{is_refusal, read_by};
 
+use crate::database::{Soundness, open_files};
 use crate::edit::{Edit, RowEdit, row_edit};
 use crate::error::{FileError, LineError, OpenError, call_error, line_result, read_result};
 use crate::format::check_headers;
-use crate::opening::{log_len, log_to_leave, open_files, open_path, restore_log};
+use crate::path::{open_path, restore_log};
 use argon2_base::phc::PasswordHash;
-use argon2_rows::rows::{are_rows_sound, look_up, write_rows};
+use argon2_rows::lines::write_lines;
+use argon2_rows::rows::{are_rows_sound, look_up};
 use argon2_rows::table::{AddError, finish, insert, remove, replace, undo_failed};
 use argon2_rows::{StoredText, View};
 use sqlite_disk::{Disk, Files};
@@ -23,14 +25,14 @@ use std::alloc::{AllocError, Global};
 use std::fmt;
 use std::io::Write;
 
-/// Names with PHC texts in a file. Once a call that changes a text returns `Ok`, the file holds the change, past any
+/// Names with PHC texts in a file. After a call that changes a text has returned `Ok`, the file holds the change, past any
 /// crash. No name is kept in memory: each call looks its name up in the file.
 ///
-/// A name is any text. A text may be locked: it then stands after `!`, and accepts no password.
+/// A name is any text. The text of a name may be locked: it then stands after `!`, and accepts no password.
 ///
-/// If a call returns an error, the names are as before it. One exception: if the disk fails, the file may have to be
-/// opened again. Then [`FileError::Closed`] refuses every later call, and after a failed commit the file may hold the
-/// change or not.
+/// After an error the names are as before the call, with one exception: if the disk fails, the file may have to be opened
+/// again. Then each later call returns [`FileError::Closed`], and after a failed commit the file may hold the change or
+/// not.
 #[derive(Drop)]
 pub struct AccountFile<S: Store> {
     pub(crate) store: S,
@@ -45,18 +47,18 @@ pub struct AccountFile<S: Store> {
 pub type AccountsAt<T> = AccountFile<FileStore<FileFrom<T>>>;
 
 impl<S: Store> AccountFile<S> {
-    ghost use Rattle.argon2_store.specs.AccountFile.{HasNames, IsClosed, IsErrorAt, Reads, Serves, WritesLines, database_of, unindexed};
-    ghost use Rattle.argon2_store.specs.Edits.{AddsShortName, adding, additions, locking, named_edit, option_map, removing, replacing, setting, text_of, unlocking};
+    ghost use Rattle.argon2_store.specs.AccountFile.{EditsText, HasNames, IsClosed, IsErrorAt, Reads, Serves, WritesLines, database_of, unindexed};
+    ghost use Rattle.argon2_store.specs.Edits.{AddsShortName, adding, additions, edit_value, locking, option_map, removing, replacing, setting, text_of, unlocking};
 
     /// Edits the text of a name. Each edit has a method, which says when it is refused: [`add`](AccountFile::add),
     /// [`set`](AccountFile::set), [`replace`](AccountFile::replace), [`remove`](AccountFile::remove),
     /// [`lock`](AccountFile::lock) and [`unlock`](AccountFile::unlock).
     ///
     /// # Errors
-    /// Those of its method.
+    /// The errors of the method for this edit.
     pub fn edit(&mut self, name: &str, edit: &Edit<'_>) -> Result<(), FileError>
-        ensures call { Serves (named_edit name.now edit.now ∷ []) result self.old self.new }
-        ensures short { OnOk result (AddsShortName (named_edit name.now edit.now)) }
+        ensures call { EditsText name.now (edit_value edit.now) result self.old self.new }
+        ensures short { OnOk result (AddsShortName (name.now, edit_value edit.now)) }
     {
         let text = self.text_of(name)?;
         let change = row_edit(edit, text.as_deref())?;
@@ -79,39 +81,39 @@ impl<S: Store> AccountFile<S> {
     ///
     /// # Errors
     /// The first of these that holds:
-    /// - those of [`text_of`](AccountFile::text_of): the file has to be opened again, or can't be read.
+    /// - the errors of [`text_of`](AccountFile::text_of): the file has to be opened again, or can't be read.
     /// - [`FileError::NameTaken`]: the name has a text.
     /// - [`FileError::OutOfMemory`], [`FileError::Io`], [`FileError::Damaged`], [`FileError::Full`] or
     ///   [`FileError::TooLong`]: the change can't be written.
     pub fn add(&mut self, name: &str, text: &PasswordHash) -> Result<(), FileError>
-        ensures call { Serves (adding name.now (text_of text.now) ∷ []) result self.old self.new }
+        ensures call { EditsText name.now (adding (text_of text.now)) result self.old self.new }
         ensures short { OnOk result (length name.now ≤ 4096) }
     {
         self.edit(name, &Edit::Add(text))
     }
 
-    /// Gives a name that has a text another one, whatever text it has, also a locked one.
+    /// Gives a name with a text another text, also if its text is locked.
     ///
     /// # Errors
-    /// As [`add`](AccountFile::add), but with [`FileError::NameUnknown`] for `NameTaken`: the name has no text.
+    /// As [`add`](AccountFile::add), with [`FileError::NameUnknown`] instead of `NameTaken`: the name has no text.
     pub fn set(&mut self, name: &str, text: &PasswordHash) -> Result<(), FileError>
-        ensures { Serves (setting name.now (text_of text.now) ∷ []) result self.old self.new }
+        ensures { EditsText name.now (setting (text_of text.now)) result self.old self.new }
     {
         self.edit(name, &Edit::Set(text))
     }
 
-    /// Gives a name the text `new` if it still has the text `old`, and that is not locked. So a text that was read,
-    /// and verified while others changed the file, is not written over what they wrote.
+    /// Gives a name the text `new` if the name still has the text `old`, and `old` is not locked. So a caller that has read
+    /// and verified a text does not write over what others have written meanwhile.
     ///
     /// # Errors
     /// The first of these that holds:
-    /// - those of [`text_of`](AccountFile::text_of): the file has to be opened again, or can't be read.
+    /// - the errors of [`text_of`](AccountFile::text_of): the file has to be opened again, or can't be read.
     /// - [`FileError::NameUnknown`]: the name has no text.
     /// - [`FileError::Locked`]: its text is locked.
-    /// - [`FileError::Changed`]: it has another text than `old`.
-    /// - those of writing, as [`add`](AccountFile::add).
+    /// - [`FileError::Changed`]: its text is not `old`.
+    /// - the errors of writing, as [`add`](AccountFile::add).
     pub fn replace(&mut self, name: &str, old: &str, new: &PasswordHash) -> Result<(), FileError>
-        ensures { Serves (replacing name.now old.now (text_of new.now) ∷ []) result self.old self.new }
+        ensures { EditsText name.now (replacing old.now (text_of new.now)) result self.old self.new }
     {
         self.edit(name, &Edit::Replace(old, new))
     }
@@ -119,45 +121,45 @@ impl<S: Store> AccountFile<S> {
     /// Removes a name and its text.
     ///
     /// # Errors
-    /// As [`set`](AccountFile::set), but never [`FileError::TooLong`].
+    /// As [`set`](AccountFile::set), except [`FileError::TooLong`].
     pub fn remove(&mut self, name: &str) -> Result<(), FileError>
-        ensures { Serves (removing name.now ∷ []) result self.old self.new }
+        ensures { EditsText name.now removing result self.old self.new }
     {
         self.edit(name, &Edit::Remove)
     }
 
     /// Locks a name: its text is kept after `!`, and accepts no password until [`unlock`](AccountFile::unlock) or
-    /// [`set`](AccountFile::set). A text that is locked stays as it is.
+    /// [`set`](AccountFile::set). A locked text stays as it is.
     ///
     /// # Errors
-    /// As [`set`](AccountFile::set). A name of more than 4096 bytes, which another program wrote, may be too long.
+    /// As [`set`](AccountFile::set). If another program wrote a name of more than 4096 bytes, its row may become too long.
     pub fn lock(&mut self, name: &str) -> Result<(), FileError>
-        ensures { Serves (locking name.now ∷ []) result self.old self.new }
+        ensures { EditsText name.now locking result self.old self.new }
     {
         self.edit(name, &Edit::Lock)
     }
 
-    /// Unlocks a name: it has the text again that it had when it was locked. A text that is not locked stays as it
-    /// is.
+    /// Unlocks a name: the `!` before its text is removed. A text that is not locked stays as it is.
     ///
     /// # Errors
     /// As [`lock`](AccountFile::lock).
     pub fn unlock(&mut self, name: &str) -> Result<(), FileError>
-        ensures { Serves (unlocking name.now ∷ []) result self.old self.new }
+        ensures { EditsText name.now unlocking result self.old self.new }
     {
         self.edit(name, &Edit::Unlock)
     }
 
     /// Adds all of these new names with their texts, or none. Each name and each text has at most 4096 bytes; no clause
-    /// says so. They are written together: after a crash in the middle of the call the file holds all of them or none.
-    /// They are written in the order of the names. If `new` is in another order, this takes a sorted copy of it; without
-    /// memory for the copy they are written as they are listed, which takes longer.
+    /// says so. The names are one transaction: after a crash in the middle of the call the file holds all of them or none.
+    /// They are written in the order of the names. If `new` is in another order, the call sorts a copy of it; without
+    /// memory for the copy the names are written as they are listed, which takes longer.
     ///
     /// # Errors
     /// Each comes with an index into `new`:
     /// - [`FileError::Closed`]: the file has to be opened again. The index is 0.
-    /// - [`FileError::NameTaken`]: the name at the index is the first that has a text, or stands twice in `new`.
-    /// - those of reading and writing, as [`add`](AccountFile::add). The index is then the number of entries.
+    /// - [`FileError::NameTaken`]: the name at the index is the first name that has a text, or that stands in `new` a second
+    ///   time.
+    /// - the errors of reading and writing, as [`add`](AccountFile::add). The index is then the number of entries.
     pub fn add_all(&mut self, new: &[(&str, StoredText<'_>)]) -> Result<(), (usize, FileError)>
         ensures call { Serves (additions (map entry_of new.now)) (unindexed result) self.old self.new }
         ensures index { (names : Texts) → HasNames self.old names →
@@ -174,15 +176,15 @@ impl<S: Store> AccountFile<S> {
         }
     }
 
-    /// Whether the file has to be opened again, since the disk failed.
+    /// Whether the file has to be opened again, because the disk failed.
     pub fn is_closed(&self) -> bool
         ensures { IsHonest S.Store (database_of self.now) → IsTrue result ↔ IsClosed self.now }
     {
         self.store.is_broken()
     }
 
-    /// The text of a name, if it has one, with its `!` if it is locked. It may be outside the grammar of PHC texts, if
-    /// another program wrote it.
+    /// The text of a name, if it has one, with the `!` of a locked text. A text of another program may be outside the grammar
+    /// of PHC texts.
     ///
     /// # Errors
     /// The first of these that holds:
@@ -213,14 +215,13 @@ impl<S: Store> AccountFile<S> {
         read_result(text)
     }
 
-    /// Writes a line for each name, in the order of the names' bytes, and flushes `output`. No clause says that it is
-    /// flushed.
+    /// Writes a line for each name, in the order of the names' bytes, and flushes `output`. No clause promises the flush.
     ///
     /// # Errors
-    /// - [`LineError::Breaks`]: a name [breaks its line](View::breaks_line). The lines before that of the first such
-    ///   name are written, and no more.
-    /// - [`LineError::Write`]: `output` can't be written. It has got a prefix of these lines.
-    /// - [`LineError::File`]: the errors of [`text_of`](AccountFile::text_of). `output` has got a prefix of these lines.
+    /// - [`LineError::Breaks`]: a name [breaks its line](View::breaks_line). The lines before the first such name are written,
+    ///   and no more.
+    /// - [`LineError::Write`]: `output` can't be written. A prefix of these lines is written.
+    /// - [`LineError::File`]: the errors of [`text_of`](AccountFile::text_of). A prefix of these lines is written.
     pub fn write_lines<W: Write>(&mut self, view: View, output: &mut W) -> Result<(), LineError>
         ensures reads { Reads (read_by result) self.old self.new }
         ensures shows { (names : Texts) → HasNames self.old names →
@@ -232,7 +233,7 @@ impl<S: Store> AccountFile<S> {
         if self.is_closed() {
             return Err(FileError::Closed.into());
         }
-        let done = write_rows(&mut self.store, &mut self.row, view, output);
+        let done = write_lines(&mut self.store, &mut self.row, view, output);
         undo_failed(&mut self.store, &done);
         line_result(read_result(done))
     }
@@ -255,69 +256,61 @@ impl<S: Store> fmt::Debug for AccountFile<S> {
 impl<T: Start> AccountsAt<T> {
     ghost use Rattle.sqlite_wal.specs.Files.{image_at};
     ghost use Rattle.argon2_store.specs.AccountFile.{IsFileFrom};
+    ghost use Rattle.argon2_store.specs.Opening.{AreHeld};
 
-    /// Opens the accounts in the SQLite file at a path, or makes the file. Its log lies beside it, under
-    /// the same name with `-wal` at its end. `start` stands for what the two files hold: one value of each
-    /// type opens one file, and only `main` names the type, such as `sqlite_std_file::Wary`.
+    /// Opens the accounts in the SQLite file at a path, or makes the file. The log of the file lies next to it, and its name
+    /// ends in `-wal`. `start` stands for what the two files hold: one value of each type opens one file, and only `main`
+    /// names the type, such as `sqlite_std_file::Wary`.
     ///
-    /// The file stays open, and locked against other processes, until the value is dropped. A new file and its log are
-    /// only for their owner: their mode is 0600. The log gets no right that the file has not. If the file is removed while
-    /// it is opened, that is an error. A new file, one that was empty, and one whose making was cut off is a database with
-    /// no table before its log is begun, so that `sqlite3` opens it after a kill. No clause says so.
+    /// The file stays open, and locked against other processes, until the value is dropped. No clause promises the rest of
+    /// this paragraph. A new file and its log are only for their owner: their mode is 0600. The log gets no right that the
+    /// file does not have. If the file is removed while it is opened, the result is an error. A file that is new, was empty,
+    /// or whose making was cut off becomes a database without a table before its log is begun, so that `sqlite3` opens it
+    /// after a kill.
     ///
-    /// An open that fails leaves the accounts in the file as they were: see [`failed_open`](crate::failed_open). A file that
-    /// holds something else, or another format, keeps each byte, and the log that it had; a log that the open has made is
-    /// removed. No clause says so, nor which error it answers. The clause of [`open_from`](AccountFile::open_from) says
-    /// which error an open of two files answers.
+    /// An open that fails leaves the accounts in the file as they were: see [`failed_open`](crate::failed_open). A file with
+    /// other contents, or of another format, keeps each byte, and the log that it had; a log that the open has made is
+    /// removed. No clause promises this, nor the error. The clause of [`open_from`](AccountFile::open_from) says which error
+    /// an open of two files returns.
     ///
     /// # Errors
     /// - [`OpenError::Path`]: the system refuses to open or to make the file.
     /// - [`OpenError::Busy`]: another process has it open.
     /// - [`OpenError::HotJournal`]: SQLite was stopped in the middle of a change.
-    /// - [`OpenError::LogWithoutFile`]: a log or a journal lies beside a file that is still to be made. Nothing is written.
+    /// - [`OpenError::LogWithoutFile`]: a log or a journal exists for a file that is still to be made. Nothing is written.
     /// - [`OpenError::LogOfAnother`]: its log belongs to another user, who may not write the file. It is not read.
     /// - [`OpenError::DamagedLog`]: the header of its log is damaged. Nothing is written.
     /// - [`OpenError::Format`]: its rows have another format. Nothing is written.
-    /// - [`OpenError::NotAccounts`], [`OpenError::Row`]: it holds something else than accounts.
+    /// - [`OpenError::NotAccounts`], [`OpenError::Row`]: it does not hold accounts.
     /// - [`OpenError::Io`], [`OpenError::Full`], [`OpenError::OutOfMemory`].
     pub fn open(rt: &HostRuntime, path: &str, start: T) -> Result<AccountsAt<T>, OpenError>
         ensures { IfOk result (IsFileFrom (image_at T.Start)) }
     {
-        let before = log_len(rt, path)?;
-        let (files, seed) = open_path(rt, path, start)?;
-        let log = log_to_leave(rt, path, before)?;
+        let (files, seed, log) = open_path(rt, path, start)?;
         match AccountFile::open_from(rt.alloc(), files, seed) {
             Ok(file) => Ok(file),
             Err((error, _files)) => {
-                // (that it is refused matters more)
+                // (the error of the open matters more)
                 let _ = restore_log(rt, path, log, &error);
                 Err(error)
             }
         }
     }
-}
 
-impl<T: Start> AccountsAt<T> {
-    ghost use Rattle.sqlite_wal.specs.Files.{image_at};
-    ghost use Rattle.argon2_store.specs.AccountFile.{IsFileFrom};
-    ghost use Rattle.argon2_store.specs.Opening.{AreHeld};
-
-    /// Opens the accounts at a path as [`open`](AccountFile::open), but supposes that the files are sound, as
+    /// Opens the accounts at a path as [`open`](AccountFile::open) does, and supposes that the files are sound, as
     /// [`open_sound_from`](AccountFile::open_sound_from) does.
     ///
     /// # Errors
-    /// Those of [`open`](AccountFile::open), but never [`OpenError::Row`].
+    /// The errors of [`open`](AccountFile::open), except [`OpenError::Row`].
     pub fn open_sound(rt: &HostRuntime, path: &str, start: T) -> Result<AccountsAt<T>, OpenError>
         requires { AreHeld (image_at T.Start) }
         ensures { IfOk result (IsFileFrom (image_at T.Start)) }
     {
-        let before = log_len(rt, path)?;
-        let (files, seed) = open_path(rt, path, start)?;
-        let log = log_to_leave(rt, path, before)?;
+        let (files, seed, log) = open_path(rt, path, start)?;
         match AccountFile::open_sound_from(rt.alloc(), files, seed) {
             Ok(file) => Ok(file),
             Err((error, _files)) => {
-                // (that it is refused matters more)
+                // (the error of the open matters more)
                 let _ = restore_log(rt, path, log, &error);
                 Err(error)
             }
@@ -327,17 +320,16 @@ impl<T: Start> AccountsAt<T> {
 
 impl<D: Disk + Drop> AccountFile<FileStore<D>> {
     ghost use Rattle.argon2_store.specs.AccountFile.{IsFileFrom};
-    ghost use Rattle.argon2_store.specs.Opening.{IsOfPair, seen_image};
+    ghost use Rattle.argon2_store.specs.Opening.{AreClean, AreHeld, IsOfPair, seen_image};
 
     /// Opens the accounts in a database file and its log, or makes them if there is no table yet.
-    /// [`open`](AccountFile::open) does so with the files at a path. `seed` is a random number, for the
-    /// log. An error comes with the files: whatever a crash leaves of them, during the call or after it,
-    /// stands for the accounts that they held.
+    /// [`open`](AccountFile::open) does so with the files at a path. `seed` is a random number for the log. An error comes
+    /// with the files: whatever a crash leaves of them, during the call or after it, stands for the accounts that they held.
     ///
     /// # Errors
     /// [`OpenError::DamagedLog`], [`OpenError::Format`], [`OpenError::NotAccounts`], [`OpenError::Row`],
-    /// [`OpenError::Io`], [`OpenError::Full`] and [`OpenError::OutOfMemory`], as [`open`](AccountFile::open). That of the
-    /// format comes before the table is looked at.
+    /// [`OpenError::Io`], [`OpenError::Full`] and [`OpenError::OutOfMemory`], as [`open`](AccountFile::open). `Format` comes
+    /// before the table is looked at.
     pub fn open_from(
         alloc: Global,
         mut files: Files<D>,
@@ -351,7 +343,7 @@ impl<D: Disk + Drop> AccountFile<FileStore<D>> {
         if let Err(error) = check_headers(alloc, &mut files) {
             return Err((error, files));
         }
-        let mut store = open_files(alloc, files, seed, false)?;
+        let mut store = open_files(alloc, files, seed, Soundness::Checked)?;
         let (mut row, mut key) = (Row::new(alloc), Row::new(alloc));
         let error = match are_rows_sound(&mut store, &mut row, &mut key) {
             Ok(true) => {
@@ -367,18 +359,13 @@ impl<D: Disk + Drop> AccountFile<FileStore<D>> {
         };
         Err((error, store.close()))
     }
-}
 
-impl<D: Disk + Drop> AccountFile<FileStore<D>> {
-    ghost use Rattle.argon2_store.specs.AccountFile.{IsFileFrom};
-    ghost use Rattle.argon2_store.specs.Opening.{AreClean, AreHeld, IsOfPair, seen_image};
-
-    /// Opens files as [`open_from`](AccountFile::open_from), but supposes that they are sound, as those are that it
-    /// has opened and this crate or SQLite has changed since. It reads no row. A call that meets an unsound row
-    /// answers [`FileError::Damaged`].
+    /// Opens files as [`open_from`](AccountFile::open_from) does, and supposes that they are sound. Files are sound if
+    /// `open_from` has opened them, and only this crate or SQLite has changed them since. No row is read. A call that meets
+    /// an unsound row returns [`FileError::Damaged`].
     ///
     /// # Errors
-    /// Those of [`open_from`](AccountFile::open_from), but never [`OpenError::Row`].
+    /// The errors of [`open_from`](AccountFile::open_from), except [`OpenError::Row`].
     pub fn open_sound_from(
         alloc: Global,
         mut files: Files<D>,
@@ -394,7 +381,7 @@ impl<D: Disk + Drop> AccountFile<FileStore<D>> {
         if let Err(error) = check_headers(alloc, &mut files) {
             return Err((error, files));
         }
-        let store = open_files(alloc, files, seed, true)?;
+        let store = open_files(alloc, files, seed, Soundness::Supposed)?;
         let (row, key) = (Row::new(alloc), Row::new(alloc));
         Ok(AccountFile {
             store,
@@ -409,9 +396,8 @@ impl<D: Disk> AccountFile<FileStore<D>> {
     ghost use Rattle.sqlite_store.specs.FileStore.{HasSpilled, log_frames};
     ghost use Rattle.argon2_store.specs.AccountFile.{Reads, database_of};
 
-    /// Copies the log into the file, so that the file has all accounts without the log, and empties the log, unless
-    /// frames of an unfinished change are in it. To drop the value without it loses nothing: the next open
-    /// reads the log.
+    /// Copies the log into the file, so that the file has all accounts without the log, and empties the log, unless it has
+    /// frames of an unfinished change. Without this call nothing is lost: the next open reads the log.
     ///
     /// # Errors
     /// - [`FileError::Closed`]: the file has to be opened again.
@@ -429,7 +415,7 @@ impl<D: Disk> AccountFile<FileStore<D>> {
     }
 }
 
-// A text after `!`.
+// The text with `!` before it.
 fn add_lock(alloc: Global, text: &str) -> Result<String, AllocError>
     ensures { IfOk result (λ locked. string_bytes locked ≡ 33 ∷ text.now) }
 {

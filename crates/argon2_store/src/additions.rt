@@ -1,4 +1,4 @@
-//! Several names that are added in one transaction.
+//! Adding several names in one transaction.
 #![tactic(auto, using(argon2_rows::proofs::TableLemmas::kept))]
 
 ghost use Rattle.std.specs.Prelude.{map};
@@ -14,7 +14,7 @@ use sqlite_trees::store::Store;
 impl<S: Store> AccountFile<S> {
     ghost use Rattle.argon2_store.specs.AccountFile.{database_of};
 
-    // Gives new names their texts, and commits. If one is taken, nothing is written.
+    // Gives new names their texts, and commits. If a name is taken, nothing is written.
     fn add_listed(&mut self, new: &[(&str, StoredText<'_>)]) -> Result<(), AddError>
         requires { IsHonest S.Store (database_of self.old) → IsOpen S.Store (database_of self.old) }
         ensures { (before : Texts) → HasRows S.Store (database_of self.old) before →
@@ -29,8 +29,8 @@ impl<S: Store> AccountFile<S> {
         }
     }
 
-    // The same, written in the order of the names, so that each page is written once. They are written as they are listed
-    // if they are in order, if there is no memory for a list in order, or to find the first that is taken.
+    // The same, written in the order of the names, so that each page is written once. The names are written as they are listed
+    // if they are in order, if there is no memory for a sorted list, or to find the first name that is taken.
     pub(crate) fn add_in_order(&mut self, new: &[(&str, StoredText<'_>)]) -> Result<(), AddError>
         requires { IsHonest S.Store (database_of self.old) → IsOpen S.Store (database_of self.old) }
         ensures { (before : Texts) → HasRows S.Store (database_of self.old) before →
@@ -48,7 +48,7 @@ impl<S: Store> AccountFile<S> {
             Err(AddError::Store(error)) => return Err(AddError::Store(error)),
             Err(AddError::Taken(_)) => {}
         }
-        // Only a failure of the disk closes the file as the rows are taken back.
+        // Only a failure of the disk closes the file as the rows are removed.
         if self.is_closed() {
             return Err(AddError::Store(StoreError::Io));
         }

@@ -1,22 +1,21 @@
 //! Edits of the text of one name.
 
-ghost use Rattle.std.specs.Prelude.{List, ℕ};
 ghost use Rattle.std.specs.Option.{option_copied};
-ghost use Rattle.argon2_store.specs.Edits.{EditsRow, named_edit};
+ghost use Rattle.argon2_store.specs.Edits.{EditsRow, edit_value};
 
 use crate::error::FileError;
 use argon2_base::phc::PasswordHash;
 use argon2_schemes::after_lock;
 
-/// An edit of the text of one name, for [`AccountFile::edit`](crate::AccountFile::edit). The method that each variant
-/// names says more.
+/// An edit of the text of one name, for [`AccountFile::edit`](crate::AccountFile::edit). Each variant has a method of the
+/// file, which says when the edit is refused.
 #[derive(Clone, Copy, Debug)]
 pub enum Edit<'a> {
     /// A new name gets this text: [`add`](crate::AccountFile::add).
     Add(&'a PasswordHash),
-    /// A name gets this text in the place of the one it has: [`set`](crate::AccountFile::set).
+    /// A name with a text gets this text instead: [`set`](crate::AccountFile::set).
     Set(&'a PasswordHash),
-    /// A name that has the first text gets the second: [`replace`](crate::AccountFile::replace).
+    /// A name with the first text gets the second: [`replace`](crate::AccountFile::replace).
     Replace(&'a str, &'a PasswordHash),
     /// A name and its text are removed: [`remove`](crate::AccountFile::remove).
     Remove,
@@ -26,7 +25,7 @@ pub enum Edit<'a> {
     Unlock,
 }
 
-// What an edit does to the row of its name. The first text is the one that the row has.
+// What an edit does to the row of its name. The first text of a variant is the text of the row.
 #[derive(Clone, Copy)]
 pub(crate) enum RowEdit<'old, 'new> {
     Keep,
@@ -35,16 +34,16 @@ pub(crate) enum RowEdit<'old, 'new> {
     Remove(&'old str),
     // The text is put after `!`.
     Lock(&'old str),
-    // The second text is what stands after `!` in the first.
+    // The second text is what follows `!` in the first.
     Unlock(&'old str, &'old str),
 }
 
-// What an edit does to the row of a name that has this text, or none, or why it is refused.
+// What an edit does to the row of a name with this text or none, or why the edit is refused.
 pub(crate) fn row_edit<'old, 'new>(
     edit: &Edit<'new>,
     text: Option<&'old str>,
 ) -> Result<RowEdit<'old, 'new>, FileError>
-    ensures { (name : List ℕ) → EditsRow (named_edit name edit.now) (option_copied text.entry) result }
+    ensures { EditsRow (edit_value edit.now) (option_copied text.entry) result }
 {
     let Some(text) = text else {
         return match edit {

@@ -1,4 +1,4 @@
-//! Why calls on an account file are refused.
+//! The errors of calls on a file of accounts.
 
 ghost use Rattle.std.specs.Prelude.{◌≡◌, Some};
 ghost use Rattle.argon2_store.specs.Errors.{File, IsOfDatabase, OutOfMemory, call_error, file_error_text, files_error, is_refusal, line_error_text, lines_by, log_error, file_error, open_error_text, path_error, read_of, store_error};
@@ -20,7 +20,7 @@ pub enum FileError {
     NameTaken,
     /// The name has no text.
     NameUnknown,
-    /// The name has another text than the one that was to be replaced.
+    /// The text of the name is not the text that was to be replaced.
     Changed,
     /// The text of the name is locked.
     Locked,
@@ -39,7 +39,7 @@ pub enum FileError {
 }
 
 impl FileError {
-    /// Whether the names are why the call is refused. Then nothing was written.
+    /// Whether the names are the reason for the error. Then nothing was written.
     pub fn is_refusal(self) -> bool
         ensures { result ≡ is_refusal self }
     {
@@ -57,13 +57,13 @@ impl fmt::Display for FileError {
         match self {
             FileError::NameTaken => f.write_str("name is taken"),
             FileError::NameUnknown => f.write_str("name is unknown"),
-            FileError::Changed => f.write_str("text has changed"),
+            FileError::Changed => f.write_str("hash has changed"),
             FileError::Locked => f.write_str("name is locked"),
             FileError::OutOfMemory => f.write_str("out of memory"),
             FileError::Io => f.write_str("the disk failed"),
             FileError::Damaged => f.write_str("the file is damaged"),
             FileError::Full => f.write_str("the disk or the file is full"),
-            FileError::TooLong => f.write_str("name or text is too long"),
+            FileError::TooLong => f.write_str("name or hash is too long"),
             FileError::Closed => f.write_str("the file has to be opened again"),
         }
     }
@@ -94,7 +94,7 @@ impl From<StoreError> for FileError {
     }
 }
 
-// Why a call fails that reads or changes an open file.
+// The error of a call that reads or changes an open file.
 pub(crate) fn call_error(error: StoreError) -> FileError
     ensures { result ≡ call_error error }
 {
@@ -105,14 +105,14 @@ pub(crate) fn call_error(error: StoreError) -> FileError
     }
 }
 
-// What a call returns that read or changed an open file.
+// The result of a call that read or changed an open file.
 pub(crate) fn read_result<X>(done: Result<X, StoreError>) -> Result<X, FileError>
     ensures { result ≡ read_of done }
 {
     done.map_err(call_error)
 }
 
-// What became of the lines of a file.
+// The result of writing the lines of a file.
 pub(crate) fn line_result(done: Result<Written, FileError>) -> Result<(), LineError>
     ensures { result ≡ lines_by done }
 {
@@ -129,7 +129,7 @@ pub(crate) fn line_result(done: Result<Written, FileError>) -> Result<(), LineEr
 pub enum LineError {
     /// The file can't be read.
     File(FileError),
-    /// The line of a name would read as that of another.
+    /// The line of a name would read as the line of another name.
     Breaks,
     /// The output can't be written.
     Write(io::Error),
@@ -166,9 +166,9 @@ pub enum OpenError {
     Busy,
     /// SQLite was stopped in the middle of a change, and has to open the file first.
     HotJournal,
-    /// A log or a journal lies beside the path, but there is no file, or an empty one.
+    /// A log or a journal exists for the path, and the file is missing or empty.
     LogWithoutFile,
-    /// The log beside the file belongs to another user, who may not write the file.
+    /// The log of the file belongs to another user, who may not write the file.
     LogOfAnother,
     /// A request for memory was refused.
     OutOfMemory,
@@ -176,11 +176,11 @@ pub enum OpenError {
     Io,
     /// The disk or the file has no room.
     Full,
-    /// The log beside the file is damaged: its header is not what was written, and no crash leaves it so.
+    /// The log of the file is damaged: its header is not what was written, and no crash leaves such a header.
     DamagedLog,
-    /// The file has another format of accounts than this release knows: its `user_version` is this number.
+    /// The rows of the file have a format that this release does not know: the `user_version` is this number.
     Format(u32),
-    /// The file is no SQLite database, is damaged, or does not list just the table of the accounts.
+    /// The file is no SQLite database, is damaged, or lists anything except the table of the accounts.
     NotAccounts,
     /// A row is not a name with a text of one line, or a name has two rows.
     Row,
@@ -209,7 +209,7 @@ impl fmt::Display for OpenError {
                 "the file has format {number}, not 0: use the release that made it, or export with that and import"
             ),
             OpenError::NotAccounts => f.write_str("the file does not hold accounts"),
-            OpenError::Row => f.write_str("a row is not a name with a text"),
+            OpenError::Row => f.write_str("a row is not a name with a hash"),
         }
     }
 }

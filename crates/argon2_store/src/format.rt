@@ -1,4 +1,4 @@
-//! The format of the rows, which the header of a database names.
+//! The format of the rows, by the number in the header of the database.
 
 ghost use Rattle.std.specs.Prelude.{◌≡◌, ◌≢◌, ◌<◌, [], ◌∷◌, ◌++◌, ℕ, codes, length, slice_index, take, IsTrue, IfErr, IfOk, MatchOption, OnOk};
 ghost use Rattle.sqlite_pool.specs.Header.{user_version};
@@ -6,17 +6,15 @@ ghost use Rattle.sqlite_wal.specs.Index.{IsLatest};
 ghost use Rattle.argon2_store.specs.Errors.{log_error};
 ghost use Rattle.argon2_store.specs.Opening.{AreClean, HasOtherFormat, HasVersion, IsDamaged, IsOfFormat, IsOfPair, OnlyReads, PageMap, Recovers, seen_image};
 
+use crate::database::PAGE;
 use crate::error::OpenError;
-use crate::opening::{HEADERS, PAGE, is_damaged};
+use crate::headers::{HEADERS, NAME, is_damaged};
 use sqlite_disk::{Disk, Files};
 use sqlite_wal::{Error, PageSize, probe_frames};
 use std::alloc::Global;
 
-// The format that this release reads and writes. It has been the only one.
+// The format that this release reads and writes. No release has had another one.
 const FORMAT: u32 = 0;
-
-// The first bytes of each SQLite database.
-pub(crate) const NAME: [u8; 16] = *b"SQLite format 3\0";
 
 // The bytes of a database's header up to the end of its `user_version`.
 const VERSIONED: usize = 64;
@@ -24,7 +22,7 @@ const VERSIONED: usize = 64;
 // The bytes of a frame of the log.
 const FRAME: usize = 24 + PAGE;
 
-// The last of a log's frames that has the first page, by the page of each frame.
+// The last frame of a log that has the first page. `frames` lists the page of each frame.
 fn last_header(frames: &[u32]) -> Option<usize>
     ensures { MatchOption result
         ((i : ℕ) → i < length frames.now → slice_index frames.now i ≢ 1) (IsLatest frames.now 1) }
@@ -32,7 +30,7 @@ fn last_header(frames: &[u32]) -> Option<usize>
     frames.iter().rposition(|&page| page == 1)
 }
 
-// The number in a header, or that of this release's format if it is the header of no database.
+// The number in the header of a database. If `head` begins no database, it is the number of this release's format.
 fn format_in(head: &[u8; VERSIONED]) -> u32
     ensures named { result ≢ 0 → take 16 head.now ≡ codes "SQLite format 3" ++ 0 ∷ [] }
     ensures found { take 16 head.now ≡ codes "SQLite format 3" ++ 0 ∷ [] → result ≡ user_version head.now }
@@ -43,8 +41,8 @@ fn format_in(head: &[u8; VERSIONED]) -> u32
     u32::from_be_bytes([head[60], head[61], head[62], head[63]])
 }
 
-// The number in the header of a database as its last commit left it, or that of this release's format if the file is no database.
-// Nothing is written.
+// The number in the header of a database, as the last commit left it. If the file is no database, it is the number of this
+// release's format. Nothing is written.
 fn probe_format<D: Disk>(alloc: Global, files: &mut Files<D>) -> Result<u32, Error>
     requires { IsTrue (D.Disk.is_usable files.old.log) × IsTrue (D.Disk.is_usable files.old.db) }
     ensures found { IfOk result (λ format. AreClean D.Disk files.new.log files.new.db → (pages : PageMap) →
@@ -74,7 +72,7 @@ fn probe_format<D: Disk>(alloc: Global, files: &mut Files<D>) -> Result<u32, Err
     Ok(format_in(&head))
 }
 
-// Refuses a damaged log, and then rows of another format than this release knows. Nothing is written.
+// Refuses a damaged log, and then rows of a format that this release does not know. Nothing is written.
 pub(crate) fn check_headers<D: Disk>(alloc: Global, files: &mut Files<D>) -> Result<(), OpenError>
     requires { IsTrue (D.Disk.is_usable files.old.log) × IsTrue (D.Disk.is_usable files.old.db) }
     ensures whole { OnOk result (AreClean D.Disk files.new.log files.new.db →

@@ -1,29 +1,27 @@
-use Rattle.argon2_store.proofs.Imports.{subst, sym, settled_at, not_broken, over_file, view, AreSound, IsFoundIn, IsClean, leaves_quiet, quiet_itself, err_is}
-use Rattle.argon2_store.proofs.NextOpenLemmas.{has_held, sound_of}
-use Rattle.argon2_store.proofs.OpenLemmas.{clean_before, of_database, seen_same, unharmed_then}
+use Rattle.argon2_store.proofs.Imports.{subst, sym, settled_at, not_broken, over_file, view, AreSound, IsFoundIn, IsClean, crash_leaves-quiet, StaysQuiet-refl, err_is}
+use Rattle.argon2_store.proofs.NextOpenLemmas.{AreHeld-HasRows, HoldSoundly-AreSound}
+use Rattle.argon2_store.proofs.OpenLemmas.{AreClean-before_read, IsOfPair-after_headers, seen_image-after_read}
 use Rattle.argon2_store.proofs.account_file.AccountFile+FileStore+D.open_sound_from.Goals as goal
 
 pub returns-in_err-store-clause-err : goal.returns-in_err-store-clause-err
 returns-in_err-store-clause-err g c =
     rw (err_is c.from_residual.result _ c.from_residual.ensures.1)
-    (of_database _ c.in_err-store.ensures.error
-    (λ clean damaged. absurd (c.in_default.ensures.whole (c.in_err-store.ensures.left.0 clean) damaged))
-    (λ clean n has. absurd (c.in_default.ensures.known (c.in_err-store.ensures.left.0 clean) n has))
-    (unharmed_then _ c.in_default.ensures.reads c.in_err-store.ensures.left.1))
+    (IsOfPair-after_headers _ _ c.in_err-store.ensures.error c.in_default.ensures.reads c.in_default.ensures.whole
+    c.in_default.ensures.known c.in_err-store.ensures.left.0 c.in_err-store.ensures.left.1)
 
-pub open_files-requires-clause-known : goal.open_files-requires-clause-known
-open_files-requires-clause-known g c known clean =
-    let (names, held) = c.requires.sound (clean_before c.in_default.ensures.reads clean) in
-    subst AreSound (sym (seen_same c.in_default.ensures.reads)) (sound_of _ names held)
+pub open_files-requires-clause-sound : goal.open_files-requires-clause-sound
+open_files-requires-clause-sound g c known clean =
+    let (names, held) = c.requires.sound (AreClean-before_read c.in_default.ensures.reads clean) in
+    subst AreSound (sym (seen_image-after_read c.in_default.ensures.reads)) (HoldSoundly-AreSound _ names held)
 
 pub invariant_of-result : goal.invariant_of-result
 invariant_of-result g c =
     let reads = c.in_default.ensures.reads in
     let opened = λ (clean : IsClean (view c.in_ok-store.store)). c.in_ok-store.ensures.opened clean in
-    let it = has_held c.in_ok-store.store _ (λ clean. c.requires.sound (clean_before reads (opened clean).1))
+    let it = AreHeld-HasRows c.in_ok-store.store _ (λ clean. c.requires.sound (AreClean-before_read reads (opened clean).1))
     (λ clean. (
       (opened clean).0,
-      subst (λ i. IsFoundIn 4096 i ((view c.in_ok-store.store).committed 0)) (seen_same reads)
+      subst (λ i. IsFoundIn 4096 i ((view c.in_ok-store.store).committed 0)) (seen_image-after_read reads)
           (opened clean).2,
     )) in
     record { kept = ∣ (it.0, it.1) ∣₁ }
@@ -33,10 +31,10 @@ returns-clause-ready g c =
     let reads = c.in_default.ensures.reads in
     let opened = λ (clean : IsClean (view c.in_ok-store.store)). c.in_ok-store.ensures.opened clean in
     let (names, has, lines, holds) =
-    has_held c.in_ok-store.store _ (λ clean. c.requires.sound (clean_before reads (opened clean).1))
+    AreHeld-HasRows c.in_ok-store.store _ (λ clean. c.requires.sound (AreClean-before_read reads (opened clean).1))
     (λ clean. (
       (opened clean).0,
-      subst (λ i. IsFoundIn 4096 i ((view c.in_ok-store.store).committed 0)) (seen_same reads)
+      subst (λ i. IsFoundIn 4096 i ((view c.in_ok-store.store).committed 0)) (seen_image-after_read reads)
           (opened clean).2,
     )) in
     let is_open = λ (clean : IsClean (view c.in_ok-store.store)). (not_broken _ _ (opened clean).0.unbroken).1 in (
@@ -44,8 +42,9 @@ returns-clause-ready g c =
       record {
         has = has;
         is_open = is_open;
-        left = λ clean. leaves_quiet over_file (λ s. settled_at s g.met.D.Disk.seen_may_stay) _ c.in_ok-store.store names has.1
-            (quiet_itself over_file c.in_ok-store.store) clean (is_open clean);
+        left = λ clean. crash_leaves-quiet over_file (λ s. settled_at s g.met.D.Disk.seen_may_stay) _ c.in_ok-store.store names
+            has.1
+            (StaysQuiet-refl over_file c.in_ok-store.store) clean (is_open clean);
       },
       lines,
       holds,
