@@ -10,19 +10,19 @@ use Rattle.argon2_store.specs.declared.error.FileError.TheVariants as file
 pub use Rattle.argon2_accounts.specs.declared.error.AccountError.{AccountError}
 pub use Rattle.argon2_accounts.specs.declared.error.AccountError.TheVariants.{Denied, NameTooLong, OutOfMemory, File}
 
--- what a denial by the policy is called
+-- the error that a denial by the policy becomes
 abbrev pub of_denial : Denial → AccountError
 of_denial (Refused hash.OutOfMemory) = OutOfMemory
 of_denial why = Denied why
 
--- what an error of the file is called: a name that is unknown or locked is denied, as it is by the policy
+-- the error that an error of the file becomes: an unknown or locked name is denied, as it is by the policy
 abbrev pub of_file : FileError → AccountError
 of_file file.NameUnknown = Denied NameUnknown
 of_file file.Locked = Denied Locked
 of_file file.OutOfMemory = OutOfMemory
 of_file e = File e
 
--- the name, its text or the password is why the call is refused
+-- the call is refused because of the name, its text or the password
 abbrev pub is_account_refusal : AccountError → Bool
 is_account_refusal (Denied why) = true
 is_account_refusal NameTooLong = true

@@ -6,19 +6,19 @@ ghost use Rattle.argon2_accounts.specs.Errors.{NameTooLong};
 ghost use Rattle.argon2_accounts.specs.Accounts.{IsClosed, IsHonest, Kept, adding, database_of, after_salt, drawn_salt, policy_value, setting};
 
 use crate::error::AccountError;
-use argon2::login::{Accepted, LoggedIn};
-use argon2_policy::Policy;
-use argon2_rows::table::LONGEST;
+use argon2::login::Accepted;
+use argon2_policy::{LoggedIn, Policy};
+use argon2_rows::table::MAX_LEN;
 use argon2_store::{AccountFile, FileError};
 use rand_core::Rng;
 use sqlite_trees::store::Store;
 use std::fmt;
 
-/// Names with passwords in a file: a policy that says what becomes of a text, and the file with the
-/// texts, which has the calls that need no password.
+/// Names with passwords in a file: a policy for the texts, and the file that keeps them, whose methods are
+/// the calls that need no password.
 #[derive(Drop)]
 pub struct Accounts<'key, S: Store> {
-    /// What passwords are hashed and verified under.
+    /// The policy under which passwords are hashed and verified.
     pub policy: Policy<'key>,
     /// The names with their texts.
     pub file: AccountFile<S>,
@@ -32,8 +32,8 @@ impl<'key, S: Store> Accounts<'key, S> {
     /// # Errors
     /// The first of these that holds:
     /// - [`AccountError::NameTooLong`]: the name has more than 4096 bytes. Nothing is hashed then.
-    /// - those of [`Policy::hash_password`].
-    /// - those of [`AccountFile::add`].
+    /// - the errors of [`Policy::hash_password`].
+    /// - the errors of [`AccountFile::add`].
     pub fn register<R: Rng>(
         &mut self,
         rng: &mut R,
@@ -42,7 +42,7 @@ impl<'key, S: Store> Accounts<'key, S> {
     ) -> Result<(), AccountError>
         ensures long { 4096 < length name.now → (result ≡ Err NameTooLong) × (self.new ≡ self.old)
             × (rng.new ≡ rng.old) }
-        ensures call { length name.now ≤ 4096 → Stores (adding name.now)
+        ensures call { length name.now ≤ 4096 → Stores name.now adding
             (policy_value self.old.policy).target password.now (drawn_salt (R.stream rng.old)) result
             self.old.file self.new.file }
         ensures names { RelatesNames (GivesPassword (policy_value self.old.policy) name.now password.now
@@ -50,7 +50,7 @@ impl<'key, S: Store> Accounts<'key, S> {
         ensures policy { self.new.policy ≡ self.old.policy }
         ensures drawn { length name.now ≤ 4096 → R.stream rng.new ≡ after_salt (R.stream rng.old) }
     {
-        if name.len() > LONGEST {
+        if name.len() > MAX_LEN {
             return Err(AccountError::NameTooLong);
         }
         let text = self.policy.hash_password(rng, password)?;
@@ -64,9 +64,9 @@ impl<'key, S: Store> Accounts<'key, S> {
     ///
     /// # Errors
     /// The first of these that holds:
-    /// - those of [`AccountFile::text_of`]: the file has to be opened again, or can't be read.
-    /// - those of [`Policy::log_in`]: the name is unknown, or its text does not accept the password.
-    /// - those of writing, as [`AccountFile::replace`]: the password is right, and writing the fresh text
+    /// - the errors of [`AccountFile::text_of`]: the file has to be opened again, or can't be read.
+    /// - the errors of [`Policy::log_in`]: the name is unknown, or its text does not accept the password.
+    /// - the errors of writing, as [`AccountFile::replace`]: the password is right, and writing the fresh text
     ///   has closed the file.
     pub fn log_in<R: Rng>(
         &mut self,
@@ -86,24 +86,22 @@ impl<'key, S: Store> Accounts<'key, S> {
             ¬ IsClosed self.new.file }
     {
         let text = self.file.text_of(name)?;
-        let stored = text.as_deref();
-        let LoggedIn { accepted, fresh } = self.policy.log_in(rng, stored, password)?;
-        let Some(fresh) = fresh else {
-            return Ok(accepted);
+        let done = self.policy.log_in(rng, text.as_deref(), password)?;
+        let LoggedIn::Renewed(renewal) = done else {
+            return Ok(done.accepted());
         };
-        // (without a text no password is accepted)
-        let renewed = self.file.replace(name, stored.unwrap_or(""), &fresh);
+        let renewed = self.file.replace(name, renewal.old, &renewal.fresh);
         after_renewal(renewed, self.file.is_closed())
     }
 
     /// Gives a name a text of a new password if its text accepts the old one, as
-    /// [`Policy::change_password`]. 16 bytes are drawn once the old one is accepted, and else nothing is.
+    /// [`Policy::change_password`]. 16 bytes are drawn after the old one is accepted, and otherwise none.
     ///
     /// # Errors
     /// The first of these that holds:
-    /// - those of [`log_in`](Accounts::log_in) with the old password, but for those of writing.
-    /// - those of [`Policy::hash_password`] with the new one.
-    /// - those of writing, as [`AccountFile::replace`].
+    /// - the errors of [`log_in`](Accounts::log_in) with the old password, except for the errors of writing.
+    /// - the errors of [`Policy::hash_password`] with the new one.
+    /// - the errors of writing, as [`AccountFile::replace`].
     pub fn change_password<R: Rng>(
         &mut self,
         rng: &mut R,
@@ -121,9 +119,8 @@ impl<'key, S: Store> Accounts<'key, S> {
     {
         let text = self.file.text_of(name)?;
         let stored = text.as_deref();
-        let fresh = self.policy.change_password(rng, stored, old, new)?;
-        // (without a text no password is accepted)
-        let done = self.file.replace(name, stored.unwrap_or(""), &fresh);
+        let renewal = self.policy.change_password(rng, stored, old, new)?;
+        let done = self.file.replace(name, renewal.old, &renewal.fresh);
         done.map_err(AccountError::from)
     }
 
@@ -132,15 +129,15 @@ impl<'key, S: Store> Accounts<'key, S> {
     ///
     /// # Errors
     /// The first of these that holds:
-    /// - those of [`Policy::hash_password`].
-    /// - those of [`AccountFile::set`]. A name that is unknown is denied, as by [`log_in`](Accounts::log_in).
+    /// - the errors of [`Policy::hash_password`].
+    /// - the errors of [`AccountFile::set`]. A name that is unknown is denied, as by [`log_in`](Accounts::log_in).
     pub fn set_password<R: Rng>(
         &mut self,
         rng: &mut R,
         name: &str,
         new: &[u8],
     ) -> Result<(), AccountError>
-        ensures call { Stores (setting name.now) (policy_value self.old.policy).target new.now
+        ensures call { Stores name.now setting (policy_value self.old.policy).target new.now
             (drawn_salt (R.stream rng.old)) result self.old.file self.new.file }
         ensures names { RelatesNames (GivesPassword (policy_value self.old.policy) name.now new.now
             result) self.old.file self.new.file }
@@ -161,7 +158,8 @@ impl<S: Store> fmt::Debug for Accounts<'_, S> {
     }
 }
 
-// What a login answers whose fresh text was to be written: without it, as long as the file is open.
+// The answer of a login whose text was to be replaced. If the fresh text can't be written, and the file is still open, the login
+// is accepted without it.
 fn after_renewal(renewed: Result<(), FileError>, closed: bool) -> Result<Accepted, AccountError>
     ensures tells { TellsOfRenewal result renewed }
     ensures closed { OnErr result (IsTrue closed) }

@@ -1,4 +1,4 @@
-use Rattle.argon2_accounts.proofs.AccountLemmas.{adding, gives_text, inr, policy_value, refl, rules, text_of}
+use Rattle.argon2_accounts.proofs.AccountLemmas.{adding, text_gives_password, inr, policy_value, refl, rules, text_of}
 use Rattle.argon2_accounts.proofs.accounts.Accounts.register.Goals as goal
 
 pub returns-in_err-text-clause-names : goal.returns-in_err-text-clause-names
@@ -9,5 +9,5 @@ returns-clause-call g c = λ short.
     inr (c.in_ok-text.text, c.add.result, c.in_ok-text.ensures.made, search rules, c.add.ensures.call)
 
 pub returns-clause-names : goal.returns-clause-names
-returns-clause-names g c = gives_text (policy_value c.args.self.now.policy) (adding _ (text_of c.in_ok-text.text)) _
+returns-clause-names g c = text_gives_password (policy_value c.args.self.now.policy) _ (adding (text_of c.in_ok-text.text)) _
     (text_of c.in_ok-text.text) (λ o. refl) c.in_ok-text.ensures.accepted c.add.result _ (search rules) c.add.ensures.call
