@@ -12,7 +12,7 @@ PROGRAM = built("argon2_passwd_cli")
 LEAST = ("--params", "m=8,t=1,p=1")
 OTHER = ("--params", "m=16,t=1,p=1")
 # The table of accounts, as the program makes it.
-with open(os.path.join(CRATES, "argon2_store/src/opening.rt"), encoding="utf-8") as source:
+with open(os.path.join(CRATES, "argon2_store/src/database.rt"), encoding="utf-8") as source:
     [TABLE] = re.findall(r'const SQL: &str =\s*"(.*)";', source.read())
 # Costs of little memory and some seconds.
 HARD = ("--params", "m=8,t=1000000,p=1")
@@ -48,7 +48,7 @@ def expect(wanted, *words, **how):
 
 
 DONE = 0, "", ""
-CURRENT = 0, "text is current\n", ""
+CURRENT = 0, "hash is current\n", ""
 WRONG = said(1, "password is invalid")
 REFUSED = said(1, "name or password is invalid")
 UNKNOWN = said(1, "name is unknown")
@@ -58,6 +58,7 @@ NONE = said(1, "standard input has no password")
 TOO_LONG = said(1, "a password has at most 4096 bytes")
 NOT_NEW = said(1, "a new password has 1 to 4096 bytes")
 ABOVE = said(2, "parameters are above the bound")
+NO_HASH = "no name with an Argon2 hash that can be verified; see --any-hash"
 CHARACTER = "a name has no colon and no control character"
 LOW = "--bound", "m=8,t=1,p=1"
 FOREIGN = {

@@ -1,4 +1,4 @@
 mod AskingLemmas
 mod LineLemmas
-mod Looks
+mod LookUpLemmas
 pub mod Common

@@ -1,4 +1,4 @@
--- What the program answers. The words that the contracts share with it are passed on.
+-- What the program answers. The file passes on the words that the contracts share with it.
 use Rattle.std.specs.Prelude.{◌≡◌, ◌≢◌, ◌⊎◌, ℕ, false, List, [], ◌∷◌, ◌++◌, Option, Some, None, Result, Ok, Err, IsErrAnd, if◌then◌else◌, IsSomeAnd, take}
 pub use Rattle.std.specs.Option.{option_map}
 pub use Rattle.std.specs.Io.KnownBytes.{Appends, Keeps}
@@ -9,13 +9,13 @@ pub use Rattle.sqlite_trees.specs.declared.store.Store.{Ghosts}
 use Rattle.argon2.specs.Login.{accepted_text}
 use Rattle.argon2.specs.declared.login.answers.Accepted.{Accepted}
 use Rattle.argon2.specs.declared.login.answers.Accepted.TheVariants.{Kept, Rehashed}
-pub use Rattle.argon2_policy.specs.Policy.{AdmitsStored, Denies, IsPolicy, LogsIn, IsMakingRefusal, PolicyValue, SaysValue, policy_value, value_after}
+pub use Rattle.argon2_policy.specs.Policy.{AdmitsStored, Denies, IsPolicy, LogsIn, IsMakingRefusal, PolicyValue, SaysValue, accepted_of, fresh_of, policy_value, value_after}
 pub use Rattle.argon2_io.specs.Lines.{AppendsPrefix}
 pub use Rattle.argon2_rows.specs.Names.{IsFirstTaken, Texts, entry_of, get}
 pub use Rattle.argon2_rows.specs.Table.{IsHonest}
 pub use Rattle.argon2_store.specs.AccountFile.{HasNames, IsReady, NamesStay, Serves, Stays, WritesLines, error_of, database_of}
 use Rattle.argon2_store.specs.Edits.{adding, locking, removing, replacing, setting, unlocking}
-pub use Rattle.argon2_store.specs.Edits.{additions, named_edit}
+pub use Rattle.argon2_store.specs.Edits.{additions, edit_value}
 use Rattle.argon2_store.specs.Errors.{read_by}
 pub use Rattle.argon2_store.specs.declared.account_file.AccountFile.{AccountFile}
 pub use Rattle.argon2_store.specs.declared.error.FileError.TheVariants.{Damaged, NameTaken, OutOfMemory}
@@ -34,7 +34,7 @@ pub use Rattle.argon2_passwd.specs.Lines.{AreSaid, Bor, Flaw, ReportsFirst, Line
 use Rattle.argon2_passwd.specs.Lines.{name_flaw}
 use Rattle.argon2_passwd.specs.declared.outside.News.{News}
 pub use Rattle.argon2_passwd.specs.News.{news_of, news_text}
-pub use Rattle.argon2_passwd.specs.Texts.{Known, ReadsPassword, behind, IsNewText, login_text, IsDenied, RefusesChange, IsSecret}
+pub use Rattle.argon2_passwd.specs.Texts.{Known, ReadsPassword, after_line, IsNewText, login_text, IsDenied, RefusesChange, IsSecret}
 pub use Rattle.argon2_passwd.specs.Additions.{ReadsLines, FailsToAdd, AddsLines, Looks, AddsEntries, PassesOver, FailsToLook, AddsOthers}
 pub use Rattle.argon2_passwd.specs.Files.{FileUse, IsOpened, IsOpenFor, OpensOnce, EditsOnce, ReadsText, FailsToRead, FailsOnName}
 
@@ -43,27 +43,27 @@ abbrev pub answer_without_text : Accepted → Accepted
 answer_without_text Rehashed = Kept
 answer_without_text did = did
 
--- The answer of an accepted login, given the result of writing its fresh text. It is refused if the name was removed or locked
--- meanwhile.
+-- The answer of an accepted login, given the result of writing its fresh text. The login is refused if the name was removed or
+-- locked meanwhile.
 abbrev pub login_by : Accepted → Outcome → Result Accepted Failure
 login_by did (Ok _) = Ok did
 login_by did (Err failure) = if is_denial failure then Err failure else Ok (answer_without_text did)
 
--- a line was written, or a prefix of it if a write fails
+-- the line was written, or a prefix of the line if a write failed
 abbrev pub WritesLine : List ℕ → Outcome → Known → Known → Type 0
 WritesLine line (Ok _) old new = Appends old new line
 WritesLine line (Err failure) old new = IsOfWrite failure × AppendsPrefix old new line
 
--- what a login did was said, or nothing if it is refused
+-- an accepted login prints what it did with the text, and a refused login prints nothing
 abbrev pub WritesLogin : Result Accepted Failure → Outcome → Known → Known → Type 0
 WritesLogin (Ok did) result old new = WritesLine (accepted_text did ++ 10 ∷ []) result old new
 WritesLogin (Err why) result old new = (result ≡ Err why) × Keeps old new
 
--- either the call was made, and its result satisfies `Made`, or the file was not opened, which is a failure and no refusal
+-- either the call was made, and its result satisfies `Made`, or the file could not be opened (status 3)
 abbrev pub EndsOrFailsToOpen : {X : Type 0} → (Result X Failure → Type 0) → Type 0 → Result X Failure → Type 0
 EndsOrFailsToOpen Made untouched result = Made result ⊎ (untouched × IsErrAnd result (λ failure. status_of failure ≡ 3))
 
--- the words or the input are refused with this failure before a file is opened
+-- before a file is opened, the words or the input are refused with this failure
 abbrev pub IsUnfit : PolicyValue → Action → Known → Failure → Type 0
 IsUnfit policy Hash input failure = IsNotNew input failure
 IsUnfit policy (Check text) input failure = IsUnread input failure
@@ -72,13 +72,13 @@ IsUnfit policy (OnFile path (Verify name)) input failure = IsUnread input failur
 IsUnfit policy (OnFile path (Edits Register name)) input failure =
     IsSomeAnd (name_flaw name.now) (λ why. failure ≡ Name why) ⊎ ((name_flaw name.now ≡ None) × IsNotNew input failure)
 IsUnfit policy (OnFile path (Edits Change name)) input failure =
-    IsUnread input failure ⊎ ReadsPassword (λ first. IsNotNew (behind input) failure) input
+    IsUnread input failure ⊎ ReadsPassword (λ first. IsNotNew (after_line input) failure) input
 IsUnfit policy (OnFile path (Edits Set name)) input failure = IsNotNew input failure
 IsUnfit policy (OnFile path (Import any_text)) input failure =
     ReadsLines any_text input (λ said. ReportsFirst (flaws_from 1 said) failure)
 IsUnfit policy _ input failure = ⊥
 
--- a command that opens no file has a line to write, with this fact
+-- `P` holds of the line that a command which opens no file prints
 abbrev pub HasReply : (List ℕ → Type 0) → PolicyValue → Action → Known → (List ℕ → Type 0) → Type 0
 HasReply Gives policy Hash input P = (v : Phc) × IsNewText Gives policy input v × P (phc_text v ++ 10 ∷ [])
 HasReply Gives policy (Check text) input P = ReadsPassword (λ password.
@@ -86,41 +86,58 @@ HasReply Gives policy (Check text) input P = ReadsPassword (λ password.
     × LogsIn policy password drawn v did w × P (login_text did w ++ 10 ∷ [])) input
 HasReply Gives policy _ input P = ⊥
 
--- A command that opens no file either prints its answer, or is refused or fails and prints nothing.
+-- a command that opens no file either prints its answer, or is refused or fails and prints nothing
 abbrev pub UsesNoFile : (List ℕ → Type 0) → PolicyValue → Action → Outcome → Known → Known → Known → Type 0
 UsesNoFile Gives policy what result input old new = HasReply Gives policy what input (λ line. WritesLine line result old new)
     ⊎ (Keeps old new × IsErrAnd result (λ failure. (status_of failure ≡ 3) ⊎ IsUnfit policy what input failure))
 
+module _ {S : Type 0} (g : Ghosts S) where
+  -- How an accepted login ended after its text was read: the text stays, or a call to replace it had this outcome.
+  abbrev pub EndsLogin : List ℕ → List ℕ → List ℕ → Phc → Accepted → Result Accepted Failure → (List (FileUse S) → Type 0)
+      → FileUse S → Type 0
+  EndsLogin path name old w did result Closed read = ((result ≡ Ok (answer_without_text did)) × Closed (read ∷ []))
+      ⊎ ((done : Outcome) × (result ≡ login_by did done)
+      × EditsOnce g path name (replacing old (phc_text w)) (λ more. Closed (read ∷ more)) done)
+
 module _ {S : Type 0} (g : Ghosts S) (Gives : List ℕ → Type 0) where
-  -- The only thing done with the file at a path was one login with the password, which gave `result`. If the text accepts the
-  -- password, none is replaced, or a call to replace it ended so.
+  -- A login that the text of a name accepts: `old` is the text, `value` what it says, `drawn` the salt of a fresh text, and
+  -- `next` what the text says once the fresh one is stored.
+  pub record IsAcceptedLogin (policy : PolicyValue) (path name password : List ℕ) (result : Result Accepted Failure)
+      (Closed : List (FileUse S) → Type 0) : Type 0 where
+    pub old : List ℕ
+    pub drawn : List ℕ
+    pub value : Phc
+    pub next : Phc
+    pub did : Accepted
+    pub salt : IsSalt Gives drawn
+    pub says : SaysValue (Some old) value
+    pub logs_in : LogsIn policy password drawn value did next
+    pub read : ReadsText g path name (Ok (Some old)) (EndsLogin g path name old next did result Closed)
+
+  -- The only thing done with the file at a path was one login with the password, which gave `result`.
   abbrev pub IsLogin : PolicyValue → List ℕ → List ℕ → List ℕ → Result Accepted Failure → (List (FileUse S) → Type 0) → Type 0
   IsLogin policy path name password result Closed =
       IsErrAnd result (FailsOnName g (Denies policy password) path name Closed)
-      ⊎ ((old drawn : List ℕ) × (v w : Phc) × (did : Accepted) × IsSalt Gives drawn × SaysValue (Some old) v
-      × LogsIn policy password drawn v did w × ReadsText g path name (Ok (Some old))
-      (λ read. ((result ≡ Ok (answer_without_text did)) × Closed (read ∷ []))
-      ⊎ ((done : Outcome) × (result ≡ login_by did done)
-      × EditsOnce g path (replacing name old (phc_text w)) (λ more. Closed (read ∷ more)) done)))
+      ⊎ IsAcceptedLogin policy path name password result Closed
 
-  -- A change of this kind was all that was done with the file at a path, by the passwords of the input and with this
-  -- result. That the file can't be opened again is no refusal.
+  -- The only thing done with the file at a path was one change of the text of a name, by the passwords of the input. `change`
+  -- reads the text first. If the file can't be opened again to replace the text, the status is 3.
   abbrev pub IsChange : PolicyValue → List ℕ → EditTask → List ℕ → Known → (List (FileUse S) → Type 0) → Outcome → Type 0
   IsChange policy path Register name input Closed result = (name_flaw name ≡ None)
-      × (v : Phc) × IsNewText Gives policy input v × EditsOnce g path (adding name (phc_text v)) Closed result
+      × (v : Phc) × IsNewText Gives policy input v × EditsOnce g path name (adding (phc_text v)) Closed result
   IsChange policy path Change name input Closed result = ReadsPassword (λ first. ReadsPassword (λ second. (second ≢ []) × (
       IsErrAnd result (FailsOnName g (RefusesChange policy first second) path name Closed)
       ⊎ ((old drawn : List ℕ) × (w : Phc) × IsSalt Gives drawn × AdmitsStored policy first (Some old)
       × IsFresh policy.target second drawn w × ReadsText g path name (Ok (Some old))
-      (λ read. EndsOrFailsToOpen (EditsOnce g path (replacing name old (phc_text w)) (λ more. Closed (read ∷ more)))
-      (Closed (read ∷ [])) result)))) (behind input)) input
+      (λ read. EndsOrFailsToOpen (EditsOnce g path name (replacing old (phc_text w)) (λ more. Closed (read ∷ more)))
+      (Closed (read ∷ [])) result)))) (after_line input)) input
   IsChange policy path Set name input Closed result =
-      (v : Phc) × IsNewText Gives policy input v × EditsOnce g path (setting name (phc_text v)) Closed result
-  IsChange policy path Remove name input Closed result = EditsOnce g path (removing name) Closed result
-  IsChange policy path Lock name input Closed result = EditsOnce g path (locking name) Closed result
-  IsChange policy path Unlock name input Closed result = EditsOnce g path (unlocking name) Closed result
+      (v : Phc) × IsNewText Gives policy input v × EditsOnce g path name (setting (phc_text v)) Closed result
+  IsChange policy path Remove name input Closed result = EditsOnce g path name removing Closed result
+  IsChange policy path Lock name input Closed result = EditsOnce g path name locking Closed result
+  IsChange policy path Unlock name input Closed result = EditsOnce g path name unlocking Closed result
 
-  -- all that was done with the file that is named, and how it ended
+  -- what an action did with its file, which was all that was done with files
   abbrev pub UsesFile : PolicyValue → Action → Outcome → Known → Known → Known → (List (FileUse S) → Type 0) → Type 0
   UsesFile policy (OnFile path (Verify name)) result input old new Closed =
       (login : Result Accepted Failure) × WritesLogin login result old new
@@ -142,13 +159,13 @@ module _ {S : Type 0} (g : Ghosts S) (Gives : List ℕ → Type 0) where
       Keeps old new × (result ≡ Ok tt) × OpensOnce g path.now (λ before after. after ≡ before) Closed
   UsesFile policy _ result input old new Closed = ⊥
 
-  -- how an action ended: its file was used, or no file was opened
+  -- an action either used its file once or opened no file
   abbrev pub EndsAction : PolicyValue → Action → Outcome → Known → Known → Known → (List (FileUse S) → Type 0) → Type 0
   EndsAction policy what result input old new Closed = UsesFile policy what result input old new Closed
       ⊎ (Closed [] × UsesNoFile Gives policy what result input old new)
 
-  -- How a command ended under the options and their secrets, if these make a policy. A failure that is no refusal may
-  -- come before.
+  -- How a command ended: it failed with status 3 before it had a policy, its parameters are above the bound, or its action ended
+  -- under the policy that the options and the secrets make.
   abbrev pub EndsCommand : (List ℕ → List ℕ → Type 0) → Options → Action → Outcome → Known → Known → Known
       → (List (FileUse S) → Type 0) → Type 0
   EndsCommand Holds options what result input old new Closed =
@@ -159,8 +176,8 @@ module _ {S : Type 0} (g : Ghosts S) (Gives : List ℕ → Type 0) where
       × Keeps old new)
       ⊎ EndsAction (policy_by options secret prior) what result input old new Closed))
 
--- What standard error gets: a prefix of the news of the file. A refusal that does not tell whether the name is there adds a
--- prefix of one line, the same line for each such refusal.
+-- What standard error gets: a prefix of the news of the file. A refusal that hides whether the name exists then adds a prefix of
+-- one line, which is the same for each such refusal.
 abbrev pub WritesErrors : Options → Action → News → Outcome → Known → Known → Type 0
 WritesErrors options what news (Ok _) old new = (n : ℕ) × Appends old new (take n (news_of what news))
 WritesErrors options what news (Err failure) old new = options.explain ≡ false → IsDenialOf what failure

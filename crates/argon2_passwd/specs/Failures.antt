@@ -23,8 +23,8 @@ use Rattle.argon2_store.specs.declared.error.LineError.TheVariants as lines
 use Rattle.argon2_store.specs.declared.error.OpenError.{OpenError}
 use Rattle.argon2_store.specs.declared.error.OpenError.TheVariants as no
 
--- 1 if a password, a name or a line is refused, 2 if the parameters are, 4 if no password opens a text or lines were passed
--- over, and 3 if a file, a stream or a request for memory fails
+-- The exit status: 1 if a password, a name or a line is refused, 2 if the parameters are above the bound, 4 if no password opens
+-- a text or lines were passed over, and 3 if a file, a stream or a request for memory fails.
 abbrev pub status_of : Failure → ℕ
 status_of NoPassword = 1
 status_of LongPassword = 1
@@ -38,20 +38,20 @@ status_of (Passed lines) = 4
 status_of (File error) = if is_refusal error then 1 else 3
 status_of _ = 3
 
--- whether a command is done
+-- the result of a command that prints its answer itself
 abbrev pub Outcome : Type 0
 Outcome = Result (Unit {0}) Failure
 
--- the outcome of a call with this answer: each error becomes a failure
+-- the result of a call, with its error turned into a failure
 abbrev pub outcome_by : {E : Type 0} → (E → Failure) → Result (Unit {0}) E → Outcome
 outcome_by failure done = result_map_both (λ x. x) failure done
 
--- the exit status of a result
+-- the exit status of a command with this result
 abbrev pub status_by : Outcome → ℕ
 status_by (Ok _) = 0
 status_by (Err failure) = status_of failure
 
--- the failure by a write: output has no reader, or can't be written
+-- the failure that an error of a write becomes: standard output has no reader, or can't be written
 abbrev pub kind_failure : ErrorKind → Failure
 kind_failure BrokenPipe = Unread
 kind_failure _ = Output
@@ -59,47 +59,47 @@ kind_failure _ = Output
 abbrev pub write_failure : IoError → Failure
 write_failure error = kind_failure (error_kind error)
 
--- output can't be written, or has no reader
+-- the failure is one of a write
 abbrev pub IsOfWrite : Failure → Type 0
 IsOfWrite failure = (error : IoError) × (failure ≡ write_failure error)
 
--- the failure by a denial: out of memory is reported as that, and a locked text as a wrong password
+-- The failure that a denial becomes: out of memory is `Memory`, and a locked text is reported as a wrong password.
 abbrev pub denial_failure : Denial → Failure
 denial_failure (denial.Refused OutOfMemory) = Memory
 denial_failure denial.Locked = Denied (denial.Refused PasswordInvalid)
 denial_failure why = Denied why
 
--- the failure by a call on a file: a name that is unknown is denied, and one that is locked as a wrong password is
+-- The failure that an error of the file becomes: an unknown name is denied, and a locked name is reported as a wrong password.
 abbrev pub file_failure : FileError → Failure
 file_failure file.OutOfMemory = Memory
 file_failure file.NameUnknown = Denied denial.NameUnknown
 file_failure file.Locked = Denied (denial.Refused PasswordInvalid)
 file_failure error = File error
 
--- the failure by lines that are not all written
+-- the failure that an error of a list or an export becomes
 abbrev pub lines_failure : LineError → Failure
 lines_failure (lines.File error) = file_failure error
 lines_failure lines.Breaks = BrokenLine
 lines_failure (lines.Write error) = write_failure error
 
--- the failure by an open
+-- the failure that an error of an open becomes
 abbrev pub open_failure : OpenError → Failure
 open_failure no.OutOfMemory = Memory
 open_failure error = Unopened error
 
--- ---- refusals that do not tell whether the file has the name
+-- ---- refusals that hide whether the file has the name
 
--- the name is unknown, or its text refuses the password or is locked
+-- the failure says that the name is unknown, or that its text is locked or refuses the password
 abbrev pub is_denial : Failure → Bool
 is_denial (Denied why) = is_wrong why
 is_denial _ = false
 
--- they refuse a login, or a change of a password
+-- such a failure refuses a login, or a change of a password
 abbrev pub IsDenialOf : Action → Failure → Type 0
 IsDenialOf (OnFile path (Verify name)) failure = IsTrue (is_denial failure)
 IsDenialOf (OnFile path (Edits Change name)) failure = IsTrue (is_denial failure)
 IsDenialOf _ failure = ⊥
 
--- the line that stands for each of them
+-- the line that is printed for each of these refusals
 abbrev pub denial_line : List ℕ
 denial_line = codes "argon2-passwd: name or password is invalid\n"

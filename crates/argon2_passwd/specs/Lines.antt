@@ -15,9 +15,9 @@ use Rattle.argon2.specs.StoredTexts.{shown_settings}
 use Rattle.argon2_schemes.specs.Prefixes.{after_any, begins_any, without_prefix}
 pub use Rattle.argon2_schemes.specs.Schemes.{scheme_of}
 use Rattle.argon2_schemes.specs.Locks.{without_lock}
-use Rattle.argon2_rows.specs.StoredTexts.{IsLine, IsStored}
+use Rattle.argon2_rows.specs.RowTexts.{IsLine, IsStored}
 use Rattle.argon2_rows.specs.Names.{Texts, entry_of}
-use Rattle.argon2_rows.specs.Rows.{breaks_line}
+use Rattle.argon2_rows.specs.Lines.{breaks_line}
 use Rattle.argon2_rows.specs.declared.view.View.TheVariants as views
 pub use Rattle.argon2_rows.specs.declared.text.StoredText.{StoredText}
 use Rattle.argon2_passwd.specs.declared.failure.Failure.{Failure}
@@ -25,26 +25,28 @@ pub use Rattle.argon2_passwd.specs.declared.failure.Flaw.{Flaw}
 pub use Rattle.argon2_passwd.specs.declared.failure.Flaw.TheVariants.{TextLength, NoText, NameLength, Character, Mark, Taken}
 use Rattle.argon2_passwd.specs.declared.failure.Failure.TheVariants.{Line as AtLine}
 
+-- the two parts of a line, as the code borrows them
 abbrev pub parts_now : Bor (List ℕ) × Bor (List ℕ) → List ℕ × List ℕ
 parts_now pair = (pair.0.now, pair.1.now)
 
--- the parts of a line at its first colon: no text if it has none, and neither if it is not UTF-8
+-- the name before the first colon of a line and the text after it: without a colon no text, and without UTF-8 neither
 abbrev pub parts_of : List ℕ → List ℕ × List ℕ
 parts_of line = if is_utf8 line then (before_first (λ b. b == 58) line, after_first (λ b. b == 58) line) else ([], [])
 
--- the text of a value that shows settings of Argon2
+-- the text says a value with valid settings of Argon2
 abbrev pub IsArgon2 : List ℕ → Type 0
 IsArgon2 text = (v : Phc) × IsPhcText text v × IsOk (shown_settings v)
 
--- The text has a colon, as only those of Werkzeug do. After any other text comes the next field of a line of another program.
+-- The text has a colon, but is none of Werkzeug, whose texts have colons. Another program has written a further field there.
 abbrev pub has_field : List ℕ → Bool
 has_field text = list_any (λ b. b == 58) text && not (begins_any (codes "scrypt:" ∷ codes "pbkdf2:" ∷ []) text)
 
--- the text begins as one of another scheme, locked or not, and has no further field
+-- the text, locked or not, begins as a text of another scheme, and has no further field
 abbrev pub has_scheme : List ℕ → Bool
 has_scheme text = is_some (scheme_of (without_lock text)) && not (has_field (without_lock text))
 
--- a text of Argon2, locked or not; if any is taken, one in the grammar, or of another scheme
+-- An import adds this text: one of Argon2, locked or not. With `any_text` it also adds any text in the grammar or of another
+-- scheme.
 abbrev pub MayBeAdded : Bool → List ℕ → Type 0
 MayBeAdded false text = IsArgon2 (without_lock text)
 MayBeAdded true text = IsStored text ⊎ IsTrue (has_scheme text)
@@ -68,17 +70,17 @@ abbrev pub IsEntry : Bool → List ℕ → List ℕ × List ℕ → Type 0
 IsEntry any_text line e = (e.0 ≡ (parts_of line).0) × (e.1 ≡ without_prefix (parts_of line).1)
     × (length e.1 ≤ 4096) × MayBeAdded any_text e.1 × (name_flaw e.0 ≡ None)
 
--- one line with the text of another scheme
+-- the text is one line, of another scheme
 abbrev pub IsForeign : List ℕ → Type 0
 IsForeign text = IsLine text × IsTrue (has_scheme text)
 
--- a text outside the grammar, or one that says a value without settings of Argon2; if any is taken, one that is outside the
--- grammar and of no other scheme
+-- An import does not add this text: it is outside the grammar, or says a value without valid settings of Argon2. With `any_text`
+-- the text is outside the grammar and of no other scheme.
 abbrev pub MayNotBeAdded : Bool → List ℕ → Type 0
 MayNotBeAdded false text = ¬ (IsStored text) ⊎ ((v : Phc) × IsPhcText (without_lock text) v × ¬ (IsOk (shown_settings v)))
 MayNotBeAdded true text = ¬ (IsStored text) × ¬ (IsForeign text)
 
--- what lines say after a byte order mark
+-- the input without a byte order mark at its beginning
 abbrev pub unmarked : List ℕ → List ℕ
 unmarked input = after_any (mark ∷ []) input
 
@@ -86,35 +88,37 @@ unmarked input = after_any (mark ∷ []) input
 abbrev pub LineValue : Type 0
 LineValue = Result (List ℕ × List ℕ) Flaw
 
+-- what the code read from a line
 abbrev pub entry_or_flaw : Result (Bor (List ℕ) × StoredText) Flaw → LineValue
 entry_or_flaw (Ok e) = Ok (entry_of e)
 entry_or_flaw (Err why) = Err why
 
--- why the text of a line may not be added, and then why its name may not
+-- why a line may not be added: first because of its text, then because of its name
 abbrev pub IsFlaw : Bool → List ℕ → List ℕ → Flaw → Type 0
 IsFlaw any_text name text TextLength = 4096 < length text
 IsFlaw any_text name text NoText = (length text ≤ 4096) × MayNotBeAdded any_text text
 IsFlaw any_text name text why = (length text ≤ 4096) × MayBeAdded any_text text × (name_flaw name ≡ Some why)
 
+-- what is read from a line is its entry, or why it may not be added
 abbrev pub IsEntryOrFlaw : Bool → List ℕ → LineValue → Type 0
 IsEntryOrFlaw any_text line (Ok e) = IsEntry any_text line e
 IsEntryOrFlaw any_text line (Err why) = IsFlaw any_text (parts_of line).0 (without_prefix (parts_of line).1) why
 
--- what the lines of an input say
+-- `said` is what the lines of the input say, in order
 abbrev pub AreSaid : Bool → List ℕ → List LineValue → Type 0
 AreSaid any_text input said = AllZip (IsEntryOrFlaw any_text) (lines (unmarked input)) said
 
--- the line, unless its name is taken
+-- the line, or the flaw that its name is taken
 abbrev pub new_line : (List ℕ → Bool) → LineValue → LineValue
 new_line is_taken (Ok e) = if is_taken e.0 then Err Taken else Ok e
 new_line is_taken (Err why) = Err why
 
--- the line has this name
+-- the line has an entry with this name
 abbrev pub line_has_name : LineValue → List ℕ → Bool
 line_has_name (Ok e) name = bytes_eq e.0 name
 line_has_name (Err why) name = false
 
--- the lines, unless their names are taken, also by an earlier line
+-- each line, or the flaw that its name is taken, before or by an earlier line
 abbrev pub new_lines : (List ℕ → Bool) → List LineValue → List LineValue
 new_lines is_taken [] = []
 new_lines is_taken (line ∷ ls) =
@@ -128,19 +132,19 @@ has_name names name = contains_by (λ k. slice_cmp nat_cmp name k.now) names
 abbrev pub has_text : Texts → List ℕ → Bool
 has_text names name = is_some (get names name)
 
--- the entries of lines
+-- the entries of the lines that have one
 abbrev pub entries_in : List LineValue → List (List ℕ × List ℕ)
 entries_in [] = []
 entries_in (Ok e ∷ ls) = e ∷ entries_in ls
 entries_in (Err why ∷ ls) = entries_in ls
 
--- the lines without one, by their numbers from this one on
+-- the lines without an entry, each with its number and its flaw; the first line has the number `k`
 abbrev pub flaws_from : ℕ → List LineValue → List (ℕ × Flaw)
 flaws_from k [] = []
 flaws_from k (Ok e ∷ ls) = flaws_from (suc k) ls
 flaws_from k (Err why ∷ ls) = (k, why) ∷ flaws_from (suc k) ls
 
--- the failure has the number of the first of these lines, and its flaw
+-- the failure has the number and the flaw of the first of these lines
 abbrev pub ReportsFirst : List (ℕ × Flaw) → Failure → Type 0
 ReportsFirst [] failure = ⊥
 ReportsFirst ((number, why) ∷ more) failure = failure ≡ AtLine number why

@@ -14,7 +14,7 @@ use argon2_io::write_bytes;
 use std::alloc::Global;
 use std::io::{BufRead, Write};
 
-/// What a command asks for, each a line.
+/// The questions of a command. A line answers each question.
 #[derive(Clone, Copy)]
 pub enum Questions {
     /// A password.
@@ -27,7 +27,7 @@ pub enum Questions {
     OldAndNewPassword,
 }
 
-/// What a command asks for, if it takes passwords.
+/// The questions of a command, if it reads passwords.
 pub fn questions_of(action: Action<'_>) -> Option<Questions>
     ensures { result ≡ questions_of action.entry }
 {
@@ -44,7 +44,7 @@ pub fn questions_of(action: Action<'_>) -> Option<Questions>
     }
 }
 
-/// Whether a command takes all lines of its input.
+/// Whether a command reads all lines of its input.
 pub fn reads_lines(action: Action<'_>) -> bool
     ensures { result ≡ takes_lines action.entry }
 {
@@ -54,12 +54,12 @@ pub fn reads_lines(action: Action<'_>) -> bool
     )
 }
 
-/// Asks on `errors` for what a command takes, and returns the lines that were typed on `input`, a new password once. Each
-/// line ends with a line feed.
+/// Asks the questions on `errors`, and returns the lines that were typed on `input`, each with a line feed at its end. A new
+/// password is typed twice and returned once.
 ///
 /// # Errors
-/// [`Failure::NoPassword`] if the input ends before a line, and [`Failure::Differing`] if the new password is another one the
-/// second time. A stream or a request for memory may fail. If a question can't be written, no line is read.
+/// [`Failure::NoPassword`] if the input ends before a line, and [`Failure::Differing`] if the two lines of the new password
+/// differ. A stream or a request for memory may fail. If a question can't be written, no line is read.
 pub fn ask<R: BufRead, E: Write>(
     alloc: Global,
     questions: Questions,
@@ -74,7 +74,7 @@ pub fn ask<R: BufRead, E: Write>(
         Questions::Password => ask_line(alloc, b"password: ", input, errors),
         Questions::NewPassword => ask_twice(alloc, input, errors),
         Questions::TextAndPassword => {
-            let mut lines = ask_line(alloc, b"text: ", input, errors)?;
+            let mut lines = ask_line(alloc, b"hash: ", input, errors)?;
             let password = ask_line(alloc, b"password: ", input, errors)?;
             lines.extend_from_slice(password.as_slice())?;
             Ok(lines)
@@ -88,7 +88,7 @@ pub fn ask<R: BufRead, E: Write>(
     }
 }
 
-// Asks for a new password until it was typed twice, and returns its line.
+// Asks for a new password twice, and returns its line.
 fn ask_twice<R: BufRead, E: Write>(
     alloc: Global,
     input: &mut R,
@@ -107,7 +107,7 @@ fn ask_twice<R: BufRead, E: Write>(
     }
 }
 
-// Writes a question, and reads the line that answers it. Enter is not shown, so a line feed is written for it.
+// Writes a question, and reads the line that answers it. A terminal does not show what ends that line, so a line feed is written.
 fn ask_line<R: BufRead, E: Write>(
     alloc: Global,
     question: &[u8],
@@ -126,7 +126,7 @@ fn ask_line<R: BufRead, E: Write>(
     line
 }
 
-// The next line of the input, with a line feed at its end also if the input ends without one.
+// Reads the next line of the input, with a line feed at its end also if the input ends without one.
 fn read_line<R: BufRead>(alloc: Global, input: &mut R) -> Result<Vec<u8>, Failure>
     ensures taken { IfOk result (λ line. ReadsLine (λ read. line.items ≡ read) (R.remaining input.old)) }
     ensures rest { OnOk result (DropsThrough (R.remaining input.old) (R.remaining input.new) 10) }

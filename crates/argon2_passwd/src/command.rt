@@ -1,19 +1,19 @@
-//! What the program is asked for.
+//! The commands of the program.
 
 use crate::options::Options;
 use crate::outside::{IfAbsent, RowCheck};
 use argon2_store::View;
 
-/// What the program is asked for, and under what.
+/// A command with its options.
 #[derive(Clone, Copy)]
 pub struct Command<'a> {
-    /// Under what texts are made and verified.
+    /// The options.
     pub options: Options<'a>,
-    /// What is asked for.
+    /// What the command does.
     pub action: Action<'a>,
 }
 
-/// What the program is asked for.
+/// What a command does.
 #[derive(Clone, Copy)]
 pub enum Action<'a> {
     /// `hash`: a text for a password.
@@ -48,7 +48,7 @@ pub enum Task<'a> {
 }
 
 impl Task<'_> {
-    // What is done if there is no file.
+    // What the command does if there is no file.
     pub(crate) fn if_absent(&self) -> IfAbsent {
         match self {
             Task::Edit(EditTask::Register, _) | Task::Import { .. } | Task::ImportOthers { .. } =>
@@ -57,7 +57,7 @@ impl Task<'_> {
         }
     }
 
-    // Which rows of the file are checked.
+    // Which rows of the file the command checks.
     pub(crate) fn rows(&self) -> RowCheck {
         match self {
             Task::Show(_) | Task::CheckFile => RowCheck::All,

@@ -1,4 +1,4 @@
-//! A name with its text, a line of standard input.
+//! A line of an import: a name and its text.
 
 ghost use Rattle.std.specs.Prelude.{◌≡◌, IfErr, IfOk, IfSome, MatchOption};
 ghost use Rattle.argon2_passwd.specs.Lines.{MayNotBeAdded, MayBeAdded, has_control, has_field, has_scheme, name_flaw, parts_now, parts_of};
@@ -8,17 +8,17 @@ ghost use Rattle.argon2_rows.specs.Names.{text_in};
 use crate::failure::{Failure, Flaw, of_reading};
 use argon2::password_hash::Settings;
 use argon2_rows::StoredText;
-pub use argon2_rows::table::LONGEST;
+pub use argon2_rows::table::MAX_LEN;
 use argon2_schemes::{after_lock, begins_any, scheme_of};
 use argon2_store::View;
 use std::alloc::Global;
 use std::io::BufRead;
 use std::str;
 
-/// What some programs put before the first line.
+/// The byte order mark, which some programs write before the first line.
 pub const BYTE_ORDER_MARK: &str = "\u{feff}";
 
-/// All bytes of the input.
+/// Reads all bytes of the input.
 pub fn read_all<R: BufRead>(alloc: Global, input: &mut R) -> Result<Vec<u8>, Failure>
     ensures ok { IfOk result (λ bytes. IfSome (R.remaining input.old)
         (λ known. bytes.items ≡ known)) }
@@ -31,7 +31,8 @@ pub fn read_all<R: BufRead>(alloc: Global, input: &mut R) -> Result<Vec<u8>, Fai
     }
 }
 
-/// A text that may be added: one of Argon2 with valid settings; if any is taken, one in the grammar, or of another scheme.
+/// The text, if an import adds it: one of Argon2 with valid settings. With `any_text` an import also adds any text in the grammar
+/// or of another scheme.
 pub fn addable_text(text: &str, any_text: bool) -> Option<StoredText<'_>>
     ensures { MatchOption result (MayNotBeAdded any_text text.now)
         (λ it. (text_in it ≡ text.now) × MayBeAdded any_text text.now) }
@@ -43,7 +44,7 @@ pub fn addable_text(text: &str, any_text: bool) -> Option<StoredText<'_>>
     }
 }
 
-// Whether a text begins as one of another scheme, locked or not, and has no further field.
+// Whether a text, locked or not, begins as a text of another scheme, and has no further field.
 fn has_scheme(text: &str) -> bool
     ensures { result ≡ has_scheme text.now }
 {
@@ -51,19 +52,19 @@ fn has_scheme(text: &str) -> bool
     scheme_of(text).is_some() && !has_field(text)
 }
 
-// Whether a text has a colon, as only those of Werkzeug do. After any other text comes the next field of a line of another
-// program.
+// Whether a text has a colon, but is none of Werkzeug, whose texts have colons. Another program has written a further field
+// there.
 fn has_field(text: &[u8]) -> bool
     ensures { result ≡ has_field text.now }
 {
     text.contains(&b':') && !begins_any(text, &["scrypt:", "pbkdf2:"])
 }
 
-/// Why a name may not be added, if it may not.
+/// Why a name may not be added, or `None` if it may.
 pub fn name_flaw(name: &str) -> Option<Flaw>
     ensures { result ≡ name_flaw name.now }
 {
-    if name.is_empty() || name.len() > LONGEST {
+    if name.is_empty() || name.len() > MAX_LEN {
         Some(Flaw::NameLength)
     } else if View::Export.breaks_line(name.as_bytes()) || has_control(name) {
         Some(Flaw::Character)
@@ -81,7 +82,8 @@ fn has_control(name: &str) -> bool
     name.chars().any(|c| c.is_control())
 }
 
-/// The parts of a line at its first colon. Without a colon there is no text; if it is not UTF-8, there is neither.
+/// The name before the first colon of a line, and the text after it. A line without a colon has no text, and a line that is not
+/// UTF-8 has neither.
 pub fn split_line(line: &[u8]) -> (&str, &str)
     ensures { parts_now result ≡ parts_of line.now }
 {

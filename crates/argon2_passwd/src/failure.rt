@@ -16,10 +16,10 @@ use thiserror::Error;
 #[derive(Clone, Copy, Debug, Error)]
 pub enum Flaw {
     /// The line's text is too long.
-    #[error("a text has at most 4096 bytes")]
+    #[error("a hash has at most 4096 bytes")]
     TextLength,
     /// The line has no text that may be added.
-    #[error("encoding is invalid")]
+    #[error("no name with an Argon2 hash that can be verified; see --any-hash")]
     NoText,
     /// The name is empty or too long.
     #[error("a name has 1 to 4096 bytes")]
@@ -198,7 +198,7 @@ impl From<Denial> for Failure {
     }
 }
 
-/// The failure of a call on a file. A name that is unknown is denied, and one that is locked as a wrong password is.
+/// The failure of a call on a file. A name that is unknown is denied. A name that is locked is denied as a wrong password is.
 impl From<FileError> for Failure {
     ghost from_gives = { λ error failure. failure ≡ file_failure error };
 

@@ -1,20 +1,20 @@
-//! What each line of an import says.
+//! Reads the lines of an import.
 
 ghost use Rattle.std.specs.Prelude.{◌≡◌, IfOk, map};
 ghost use Rattle.argon2_passwd.specs.Lines.{AreSaid, IsEntryOrFlaw, entries_in, entry_or_flaw, flaws_from};
 ghost use Rattle.argon2_rows.specs.Names.{entry_of};
 
-use crate::entries::{BYTE_ORDER_MARK, LONGEST, addable_text, name_flaw, split_line};
+use crate::entries::{BYTE_ORDER_MARK, MAX_LEN, addable_text, name_flaw, split_line};
 use crate::failure::Flaw;
 use crate::passwords::line_len;
 use argon2_rows::StoredText;
 use argon2_schemes::{after_any, str_without_prefix};
 use std::alloc::{AllocError, Global};
 
-/// What a line says: a name and a text that may be added, or why it has none.
+/// A line that was read: a name and a text that may be added, or why the line may not be added.
 pub type Line<'a> = Result<(&'a str, StoredText<'a>), Flaw>;
 
-/// What each line says after a byte order mark.
+/// Reads the lines of an input, after a byte order mark if there is one.
 ///
 /// # Errors
 /// Memory may be refused.
@@ -33,13 +33,13 @@ pub fn read_lines<'a>(
     Ok(found)
 }
 
-// What a line says.
+// Reads one line.
 fn read_line(line: &[u8], any_text: bool) -> Line<'_>
     ensures { IsEntryOrFlaw any_text line.now (entry_or_flaw result) }
 {
     let (name, text) = split_line(line);
     let text = str_without_prefix(text);
-    if text.len() > LONGEST {
+    if text.len() > MAX_LEN {
         return Err(Flaw::TextLength);
     }
     match (addable_text(text, any_text), name_flaw(name)) {
@@ -49,7 +49,7 @@ fn read_line(line: &[u8], any_text: bool) -> Line<'_>
     }
 }
 
-/// The names and the texts of lines, and the numbers of the other lines with their flaws.
+/// Divides lines into the entries, and the numbers of the other lines with their flaws.
 ///
 /// # Errors
 /// Memory may be refused.

@@ -1,12 +1,12 @@
-//! Under what the program makes and verifies texts.
+//! The options under which the program makes and verifies texts.
 
 use argon2::Params;
 use argon2::bound::Bound;
 
-/// Under what texts are made and verified.
+/// The options under which texts are made and verified.
 #[derive(Clone, Copy)]
 pub struct Options<'a> {
-    /// What new texts are made under, by Argon2id of version 0x13.
+    /// The parameters of new texts, which are of Argon2id and version 0x13.
     pub params: Params,
     /// The most that a stored text may ask for, if it is given.
     pub bound: Option<Bound>,
@@ -15,7 +15,7 @@ pub struct Options<'a> {
     /// The file with the secret that was in use before, if it is given: a text that the other refuses is tried
     /// under it.
     pub old_secret_file: Option<&'a str>,
-    /// Whether the message of a refused login says if the name or the password is why.
+    /// Whether the message of a refused login says whether the name or the password is wrong.
     pub explain: bool,
 }
 
@@ -32,8 +32,8 @@ impl Options<'_> {
         explain: false,
     };
 
-    /// The most that a stored text may ask for: what was given, or 2 GiB, 64 passes and 64 lanes,
-    /// and no less than the parameters.
+    /// The most that a stored text may ask for: the bound that was given, or 2 GiB, 64 passes and 64
+    /// lanes, each no less than the parameter.
     pub fn bound(&self) -> Bound
         ensures { result ≡ bound_or_default self.now }
     {

@@ -4,7 +4,7 @@ use crate::failure::{Failure, SecretKind};
 use argon2_store::AccountFile;
 use sqlite_trees::store::Store;
 
-/// What is said of a file although nothing fails.
+/// News of a file, which the program prints although nothing fails.
 #[derive(Clone, Copy)]
 pub struct News {
     /// The command made the file.
@@ -49,10 +49,10 @@ pub trait Outside {
     // The files that were opened and closed, in order, while none is open. A type that keeps no list says nothing of it.
     ghost closed: { Self → List (FileUse Self.File) → Type 0 } = { λ _ _. ⊤ };
 
-    // The same while the file at this path is open, which was opened with this store.
+    // The same while a file is open, which was opened at this path with this store.
     ghost opened: { Self → List (FileUse Self.File) → List ℕ → Self.File → Type 0 } = { λ _ _ _ _. ⊤ };
 
-    // What is said of the file that was opened.
+    // The news of the file that was opened.
     ghost news: { Self → News };
 
     /// The secret in the file at a path.
@@ -109,7 +109,7 @@ pub trait Outside {
     fn pause(&mut self) -> bool
         ensures { (uses : List (FileUse Self.File)) → closed self.old uses → closed self.new uses };
 
-    /// What is said of the file that was opened.
+    /// The news of the file that was opened.
     fn news(&self) -> News
         ensures { result ≡ news self.now };
 }

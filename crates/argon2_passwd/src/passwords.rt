@@ -1,4 +1,4 @@
-//! The password, a line of standard input.
+//! Passwords, each a line of standard input.
 
 ghost use Rattle.std.specs.Prelude.{◌≡◌, ◌≢◌, [], Some, IfErr, IfOk, IfSome, OnOk, length, take};
 ghost use Rattle.std.specs.Io.BufRead.{DropsThrough};
@@ -9,9 +9,9 @@ use std::alloc::Global;
 use std::io::BufRead;
 
 /// The most bytes that a password may have.
-pub const LONGEST: usize = 4096;
+pub const MAX_PASSWORD_LEN: usize = 4096;
 
-/// The next line of the input, without its LF or CR LF.
+/// Reads a password: the next line of the input, without its LF or CR LF.
 pub fn read_password<R: BufRead>(alloc: Global, input: &mut R) -> Result<Vec<u8>, Failure>
     ensures found { IfOk result (λ password. IfSome (R.remaining input.old)
         (λ bytes. password_of bytes ≡ Some password.items)) }
@@ -25,14 +25,14 @@ pub fn read_password<R: BufRead>(alloc: Global, input: &mut R) -> Result<Vec<u8>
         Err(e) => return Err(of_reading(&e)),
     }
     let len = line_len(line.as_slice());
-    if len > LONGEST {
+    if len > MAX_PASSWORD_LEN {
         return Err(Failure::LongPassword);
     }
     line.truncate(len);
     Ok(line)
 }
 
-/// The same as a new password, which is not empty.
+/// Reads a new password, as [`read_password`]. An empty line is refused.
 pub fn read_new_password<R: BufRead>(alloc: Global, input: &mut R) -> Result<Vec<u8>, Failure>
     ensures found { IfOk result (λ password. IfSome (R.remaining input.old)
         (λ bytes. password_of bytes ≡ Some password.items)) }
@@ -46,7 +46,7 @@ pub fn read_new_password<R: BufRead>(alloc: Global, input: &mut R) -> Result<Vec
     Ok(password)
 }
 
-/// How many bytes a line has before its LF or CR LF.
+/// The length of a line without its LF or CR LF.
 pub fn line_len(line: &[u8]) -> usize
     ensures value { take result line.now ≡ line_of line.now }
     ensures length { length (line_of line.now) ≡ result }

@@ -1,15 +1,14 @@
-//! The program over any world outside it and any streams.
-#![tactic(auto, using(crate::proofs::Common::keeps_same))]
+//! Runs a command, over any streams and any `Outside`.
+#![tactic(auto, using(crate::proofs::Common::unwritten_keeps))]
 
 ghost use Rattle.std.specs.Prelude.{◌≡◌, ◌≤◌, ◌⊎◌, ◌++◌, ◌∷◌, [], ℕ, vec_items, IfErr, IfOk, IsTrue, OnOk, false, string_bytes, take};
-ghost use Rattle.argon2_passwd.specs.Answers.{Appends, AppendsPrefix, UsesNoFile, IsDenialOf, EndsCommand, IsNewText, IsPolicy, IsSalt, IsSecret, WritesErrors, IsNotNew, Outcome, Params, WritesLine, denial_line, news_of, news_text, next_salt, option_map, phc_of, policy_by, policy_value, status_by, status_of};
+ghost use Rattle.argon2_passwd.specs.Answers.{Appends, AppendsPrefix, IsDenialOf, EndsAction, EndsCommand, IsPolicy, IsSalt, IsSecret, WritesErrors, Outcome, Params, WritesLine, denial_line, news_of, news_text, next_salt, option_map, policy_by, policy_value, status_by, status_of};
 
 use crate::command::{Action, Command, EditTask, Task};
 use crate::failure::{Failure, Flaw, SecretKind};
 use crate::options::Options;
 use crate::outside::{News, Outside};
-use crate::passwords::{read_new_password, read_password};
-use argon2::{Algorithm, Argon2, PasswordHash, Version};
+use argon2::{Algorithm, Argon2, Version};
 use argon2_io::write_line;
 use argon2_policy::Policy;
 use rand_chacha::ChaCha20Rng;
@@ -33,7 +32,7 @@ pub const PROGRAM: &str = "argon2-passwd";
 /// grammar, has no valid parameters, is above the bound or of another scheme; or an import has passed over lines.
 /// Unless it is 0, the failure's text is written to `errors`, and nothing to `output`; only a write of it that fails may
 /// leave a prefix of the answer, and a list what could be read. If `errors` can't be written, the status stays. Unless
-/// `explain` is set, a login that is refused has the same text for an unknown name, a locked one and a wrong password.
+/// `explain` is set, a refused login has the same text for an unknown name, a locked name and a wrong password.
 /// Whatever the status, the command is all that was done with a file.
 pub fn run<P: Outside, R: BufRead, W: Write, E: Write>(
     alloc: Global,
@@ -60,7 +59,7 @@ pub fn run<P: Outside, R: BufRead, W: Write, E: Write>(
     }
 }
 
-// Says what there is to say of the file, as far as `errors` takes it.
+// Writes the news of the file to `errors`, as far as one write goes.
 fn tell<E: Write>(alloc: Global, errors: &mut E, action: Action<'_>, news: News)
     ensures { (n : ℕ) × Appends (E.contents errors.old) (E.contents errors.new)
         (take n (news_of action.entry news)) }
@@ -89,8 +88,8 @@ fn news_text(alloc: Global, path: &str, news: News) -> Result<String, AllocError
     format!(in alloc; "{made}{behind}")
 }
 
-/// Says on `errors` why the program fails, and returns the exit status. If the reader of standard output has gone, nothing is
-/// said.
+/// Writes to `errors` why the program fails, and returns the exit status. Nothing is written if the reader of standard output has
+/// gone.
 pub fn fail<E: Write>(errors: &mut E, command: &Command<'_>, failure: &Failure) -> u8
     ensures value { result ≡ status_of failure.now }
     ensures some { (1 ≤ result) × (result ≤ 4) }
@@ -102,7 +101,7 @@ pub fn fail<E: Write>(errors: &mut E, command: &Command<'_>, failure: &Failure) 
 }
 
 /// Writes to `errors` why the program fails, and nothing if the reader of standard output has gone. Unless `explain` is set, a
-/// login that is refused has the same line for an unknown name, a locked one and a wrong password.
+/// refused login has the same line for an unknown name, a locked name and a wrong password.
 ///
 /// # Errors
 /// A write fails. Then a prefix of the line is written.
@@ -130,7 +129,7 @@ pub fn say_failure<E: Write>(
     }
 }
 
-// Says which lines were passed over, and why.
+// Writes which lines were passed over, and why.
 fn write_passed<E: Write>(errors: &mut E, lines: &[(usize, Flaw)]) -> io::Result<()> {
     for (number, why) in lines {
         writeln!(errors, "{PROGRAM}: line {number}: {why}")?;
@@ -138,7 +137,7 @@ fn write_passed<E: Write>(errors: &mut E, lines: &[(usize, Flaw)]) -> io::Result
     Ok(())
 }
 
-// Whether the failure is not to tell if the file has the name.
+// Whether the message must hide whether the file has the name.
 fn is_hidden(command: &Command<'_>, failure: &Failure) -> bool
     ensures { command.now.options.explain ≡ false → IsDenialOf command.now.action failure.now → IsTrue result }
 {
@@ -149,7 +148,7 @@ fn is_hidden(command: &Command<'_>, failure: &Failure) -> bool
     logs_in && failure.is_denial() && !command.options.explain
 }
 
-// What a failure is of: the path of a file that fails, or the name or the word of a text that no password opens.
+// What the message names: the path of a file that fails, the name whose text no password opens, or `HASH` of `check`.
 fn subject<'a>(command: &Command<'a>, failure: &Failure) -> Option<&'a str> {
     match failure {
         Failure::Secret(kind) | Failure::SecretLength(kind) => match kind {
@@ -164,7 +163,7 @@ fn subject<'a>(command: &Command<'a>, failure: &Failure) -> Option<&'a str> {
             }
         }
         failure if failure.status() == 4 => match command.action {
-            Action::Check(_) => Some("TEXT"),
+            Action::Check(_) => Some("HASH"),
             Action::OnFile(_, Task::Verify(name) | Task::Edit(_, name)) => Some(name),
             _ => None,
         },
@@ -189,60 +188,53 @@ fn answer<P: Outside, R: BufRead, W: Write>(
     let current = secret(outside, options.secret_file, SecretKind::Current)?;
     let old = secret(outside, options.old_secret_file, SecretKind::Old)?;
     let policy = policy(alloc, options, &current, &old)?;
-    accounts::serve(alloc, outside, &policy, command.action, input, output)
+    serve(alloc, outside, &policy, command.action, input, output)
 }
 
-// Writes a text for the next password.
-fn hash<P: Outside, R: BufRead, W: Write>(
+// Does the action of a command, under a policy.
+fn serve<P: Outside, R: BufRead, W: Write>(
     alloc: Global,
-    outside: &P,
+    outside: &mut P,
     policy: &Policy<'_>,
+    action: Action<'_>,
     input: &mut R,
     output: &mut W,
 ) -> Result<(), Failure>
-    ensures { UsesNoFile P.gives (policy_value policy.now) Action.Hash result
-        (R.remaining input.old) (W.contents output.old) (W.contents output.new) }
+    requires { P.closed outside.old [] }
+    ensures { EndsAction P.File.Store P.gives (policy_value policy.now) action.entry
+        result (R.remaining input.old) (W.contents output.old) (W.contents output.new) (P.closed outside.new) }
 {
-    let hash = new_text(alloc, outside, policy, input)?;
-    say(output, hash.text().as_str())
+    match action {
+        Action::Hash => texts::hash(alloc, outside, policy, input, output),
+        Action::Check(text) => texts::check(alloc, outside, policy, text, input, output),
+        Action::OnFile(path, task) => {
+            let if_absent = task.if_absent();
+            outside.check_path(path, if_absent)?;
+            let access = &accounts::Access {
+                path,
+                if_absent,
+                rows: task.rows(),
+                policy,
+            };
+            match task {
+                Task::Verify(name) => accounts::verify(alloc, outside, access, name, input, output),
+                Task::Edit(change, name) => edits::edit(
+                    alloc, outside, access, change, name, input,
+                ),
+                Task::Show(view) => accounts::show(outside, access, view, output),
+                Task::Import { any_text } => accounts::import(
+                    alloc, outside, access, any_text, input,
+                ),
+                Task::ImportOthers { any_text } => {
+                    others::import_others(alloc, outside, access, any_text, input)
+                }
+                Task::CheckFile => accounts::check_file(outside, access),
+            }
+        }
+    }
 }
 
-// A fresh text of the next password.
-fn new_text<P: Outside, R: BufRead>(
-    alloc: Global,
-    outside: &P,
-    policy: &Policy<'_>,
-    input: &mut R,
-) -> Result<PasswordHash, Failure>
-    ensures ok { IfOk result (λ text.
-        IsNewText P.gives (policy_value policy.now) (R.remaining input.old) (phc_of text)) }
-    ensures err { IfErr result (IsNotNew (R.remaining input.old)) }
-{
-    let mut rng = generator(outside)?;
-    let password = read_new_password(alloc, input)?;
-    texts::fresh_text(policy, &mut rng, password.as_slice())
-}
-
-// Writes what a text does with the next password.
-fn check<P: Outside, R: BufRead, W: Write>(
-    alloc: Global,
-    outside: &P,
-    policy: &Policy<'_>,
-    text: &str,
-    input: &mut R,
-    output: &mut W,
-) -> Result<(), Failure>
-    ensures { UsesNoFile P.gives (policy_value policy.now) (Action.Check text.entry) result
-        (R.remaining input.old) (W.contents output.old) (W.contents output.new) }
-{
-    let mut rng = generator(outside)?;
-    let password = read_password(alloc, input)?;
-    let done = policy.log_in(&mut rng, Some(text), password.as_slice())?;
-    let reply = texts::reply(alloc, &done)?;
-    say(output, reply.as_str())
-}
-
-// The secret in the file at a path, if there is one.
+// Reads the secret in the file at a path, if the options name a path.
 fn secret<P: Outside>(
     outside: &P,
     path: Option<&str>,
@@ -257,7 +249,7 @@ fn secret<P: Outside>(
     }
 }
 
-// What passwords are hashed and verified under.
+// Makes the policy of the options and their secrets.
 fn policy<'key>(
     alloc: Global,
     options: &Options<'_>,
@@ -288,7 +280,7 @@ fn policy<'key>(
     }
 }
 
-// A generator for the salts.
+// Starts a generator of salts by random bytes of the system.
 fn generator<P: Outside>(outside: &P) -> Result<ChaCha20Rng, Failure>
     ensures salt { IfOk result (λ rng. IsSalt P.gives (next_salt rng)) }
     ensures failed { IfErr result (λ failure. status_of failure ≡ 3) }

@@ -13,7 +13,7 @@ use strsim::osa_distance;
 
 const COMMAND_LINE: CommandLine<'static> = CommandLine {
     program: PROGRAM,
-    about: "Makes texts of passwords, checks passwords by them, and keeps accounts in a file",
+    about: "Hashes passwords, checks them against stored hashes, and keeps accounts in a file",
     long_about: ABOUT,
     notes: NOTES,
     usage: Some(USAGE),
@@ -21,27 +21,27 @@ const COMMAND_LINE: CommandLine<'static> = CommandLine {
 };
 
 const ARGUMENTS: [Argument<'static>; 9] = [
-    argument!(--"params" <COSTS> "What new texts are made under [default: m=19456,t=2,p=1]"),
+    argument!(--"params" <COSTS> "The parameters of new hashes [default: m=19456,t=2,p=1]"),
     argument!(--"bound" <COSTS>
-        "The most that a text may ask for [default: m=2097152,t=64,p=64, or the parameters]"),
+        "The highest costs that a stored hash may ask for [default: m=2097152,t=64,p=64, or the parameters]"),
     argument!(--"secret-file" <PATH>
-        "The file's bytes, 1 to 4096 of them, are the secret of all texts"),
+        "The file's bytes, 1 to 4096 of them, are the secret key (\"pepper\") of all hashes"),
     argument!(--"old-secret-file" <PATH>
-        "A text that the secret refuses is tried under these bytes, 0 to 4096, and renewed under the secret"),
+        "A hash that the secret refuses is tried under these bytes, 0 to 4096, and renewed under the secret"),
     argument!(--"keyid" <ID>
-        "New texts have `keyid=ID`, which names the secret: Base64 of at most 8 bytes"),
-    argument!(--"any-text"
-        "`import` takes texts of bcrypt, scrypt, PBKDF2, yescrypt, SHA-crypt, MD5-crypt, LDAP and Django too"),
+        "New hashes contain `keyid=ID`, which names the secret: Base64 of at most 8 bytes"),
+    argument!(--"any-hash"
+        "`import` accepts hashes of bcrypt, scrypt, PBKDF2, yescrypt, SHA-crypt, MD5-crypt, LDAP and Django too"),
     argument!(--"skip"
         "`import` passes over lines that may not be added, and says which and why"),
     argument!(--"explain"
         "`verify` and `change` say whether the name or the password is wrong"),
-    argument!(COMMAND.. 1 "A command with its text, or its file and name"),
+    argument!(COMMAND.. 1 "A command with its hash, or with its file and name"),
 ];
 
 const USAGE: &str = "\
 argon2-passwd [OPTIONS] hash
-       argon2-passwd [OPTIONS] check TEXT
+       argon2-passwd [OPTIONS] check HASH
        argon2-passwd [OPTIONS] register|verify|change|set|remove|lock|unlock FILE NAME
        argon2-passwd [OPTIONS] list|export|import|check-file FILE";
 
@@ -63,42 +63,42 @@ const COMMANDS: [&str; 13] = [
 ];
 
 const ABOUT: &str = "\
-Makes a PHC text of a password by Argon2id, checks a password by such a text, and keeps names with such
-texts in a file.
+Hashes passwords with Argon2id, checks passwords against stored hashes, and keeps names with their hashes in
+a file. A hash is a PHC string, such as $argon2id$v=19$m=19456,t=2,p=1$SALT$HASH.
 
-The password is the first line of standard input. The line's end, LF or CR LF, is no part of it. It has at
-most 4096 bytes, and a new one at least one.
+The password is the first line of standard input, without the line's end, LF or CR LF. It has at most 4096
+bytes, and a new password has at least one.
 
-  hash                write a text of the password, with a salt of 16 bytes from the system
-  check TEXT          accept or refuse the password; if it is accepted, write \"text is renewed\" and a new text
-                      if TEXT has weaker settings than new texts, and else \"text is current\"; with - for TEXT,
-                      read it from the line before the password, so that other users can't see it
-  register FILE NAME  give a new name a text of the password; it has 1 to 4096 bytes, no colon, no control
-                      character and no byte order mark at its start
-  verify FILE NAME    accept or refuse the password; write \"text is current\" if it is accepted, or
-                      \"text is renewed\" once FILE has a new text in place of one with weaker settings
-  change FILE NAME    give the name a text of the second line if the first line is accepted
-  set FILE NAME       give a name that is there a text of the password
-  remove FILE NAME    remove the name with its text
-  lock FILE NAME      keep the text of the name behind a !, so that it accepts no password
-  unlock FILE NAME    give the name the text back that it had when it was locked
+  hash                write a hash of the password, with a salt of 16 random bytes from the system
+  check HASH          accept or refuse the password; if it is accepted, write \"hash is current\", or, if HASH has
+                      weaker settings than new hashes, \"hash is renewed\" and a new hash; if HASH is -, read
+                      it from the line before the password, so that other users can't see it
+  register FILE NAME  add a new name with a hash of the password; the name has 1 to 4096 bytes, no colon, no
+                      control character and no byte order mark at its start
+  verify FILE NAME    accept or refuse the password; if it is accepted, write \"hash is current\", or
+                      \"hash is renewed\" once FILE has a new hash in place of one with weaker settings
+  change FILE NAME    give the name a hash of the second line if the password on the first line is accepted
+  set FILE NAME       give a name that exists a hash of the password
+  remove FILE NAME    remove the name with its hash
+  lock FILE NAME      put a ! before the hash of the name, so that it accepts no password
+  unlock FILE NAME    remove the ! again, so that the hash accepts its password
   list FILE           write the names, one a line, in the order of their bytes
-  export FILE         write the same lines with a colon and the text behind each name
-  import FILE         add all names and texts of standard input, in the form that export writes, or none;
-                      texts are Argon2's, unless --any-text is given, and may be locked; with --skip, pass over
-                      the lines that may not be added
-  check-file FILE     read all of FILE, and fail if it is damaged or a row is not a name with a text
+  export FILE         write the same lines, with a colon and the hash after each name
+  import FILE         add all names and hashes of standard input, in the form that export writes, or none;
+                      the hashes are Argon2's unless --any-hash is given, and may be locked; with --skip, pass
+                      over the lines that may not be added
+  check-file FILE     read all of FILE, and fail if it is damaged or a row is not a name with a hash
 
-FILE is a SQLite database that survives a crash at any moment. register and import make it if there is none.
-It may also stand before the command's word. A path that is such a word is written with ./ before it.";
+FILE is a SQLite database that survives a crash at any moment. register and import make it if it does not
+exist. It may also come before the command's word. Write ./ before a path that is such a word.";
 
 const NOTES: &str = "\
 Example: argon2-passwd register accounts.db ann
 
-The status is 0 if a text is written, the password is accepted or the command on FILE is done. It is 1 if the
+The status is 0 if a hash is written, the password is accepted or the command on FILE is done. It is 1 if the
 password is wrong, too long or missing, a new one is empty, the name is taken, unknown or not allowed, or a
 line is refused; 2 if the arguments are wrong or the parameters are above the bound; 3 if a file, a stream,
-random bytes or a request for memory fails; and 4 if no password opens a text, since it is outside the grammar,
+random bytes or a request for memory fails; and 4 if no password opens a hash, since it is outside the grammar,
 of another scheme or above the bound, or if --skip passed over a line. If it is not 0, standard error says why.";
 
 /// Reads the command with its options. If an option is given twice, the last one counts.
@@ -128,7 +128,7 @@ fn command<'a>(alloc: Global, matches: &Matches<'a>) -> Result<Command<'a>, Refu
         bound: bound_asked(alloc, matches)?,
     };
     let words = matches.get_all(alloc, "COMMAND")?;
-    let any_text = matches.has("any-text");
+    let any_text = matches.has("any-hash");
     let import = if matches.has("skip") {
         Task::ImportOthers { any_text }
     } else {
@@ -140,7 +140,7 @@ fn command<'a>(alloc: Global, matches: &Matches<'a>) -> Result<Command<'a>, Refu
     }
 }
 
-// What new texts are made under.
+// The parameters of new hashes.
 fn params_asked(alloc: Global, matches: &Matches<'_>) -> Result<Params, Refusal> {
     let params = match matches.get("params") {
         None => Params::DEFAULT,
@@ -161,7 +161,7 @@ fn params_asked(alloc: Global, matches: &Matches<'_>) -> Result<Params, Refusal>
     }
 }
 
-// The most that a text may ask for, if it is given.
+// The highest costs that a stored hash may ask for, if they are given.
 fn bound_asked(alloc: Global, matches: &Matches<'_>) -> Result<Option<Bound>, Refusal> {
     let Some(value) = matches.get("bound") else {
         return Ok(None);

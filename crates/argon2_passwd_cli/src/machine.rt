@@ -14,10 +14,10 @@ use std::time::{Duration, Instant};
 use std::{fs, thread};
 
 // The most bytes that a secret may have.
-const LONGEST_SECRET: usize = 4096;
+const MAX_SECRET_LEN: usize = 4096;
 
 // How many seconds a command waits in all for other processes that have the file open.
-const LONGEST_WAIT: u64 = 5;
+const MAX_WAIT_SECS: u64 = 5;
 
 // After how many its pauses become short, so that it comes before a process that has just begun.
 const LONG_PAUSES: u64 = 2;
@@ -99,7 +99,7 @@ impl Outside for Machine<'_> {
         let mut secret = Vec::new(self.rt.alloc());
         let file = fs::open(self.rt, path).or(Err(Failure::Secret(kind)))?;
         match file
-            .take(LONGEST_SECRET as u64 + 1)
+            .take(MAX_SECRET_LEN as u64 + 1)
             .read_to_end(&mut secret)
         {
             Ok(_) => {}
@@ -107,7 +107,7 @@ impl Outside for Machine<'_> {
             Err(_) => return Err(Failure::Secret(kind)),
         }
         let is_missing = secret.is_empty() && matches!(kind, SecretKind::Current);
-        if is_missing || secret.len() > LONGEST_SECRET {
+        if is_missing || secret.len() > MAX_SECRET_LEN {
             return Err(Failure::SecretLength(kind));
         }
         Ok(secret)
@@ -182,7 +182,7 @@ impl Outside for Machine<'_> {
         if let Some(paused) = self.paused {
             self.waited = self.waited.saturating_add(now.duration_since(paused));
         }
-        if self.waited.as_secs() >= LONGEST_WAIT {
+        if self.waited.as_secs() >= MAX_WAIT_SECS {
             return false;
         }
         self.paused = Some(now);

@@ -14,7 +14,7 @@ mod arguments;
 mod machine;
 
 // The most bytes of a line with a password, or with a text, and its LF or CR LF.
-const LONGEST_LINE: u64 = 4098;
+const MAX_LINE_LEN: u64 = 4098;
 
 fn main(rt: HostRuntime) -> ExitCode {
     let mut errors = rt.stderr();
@@ -47,9 +47,9 @@ fn most_input(command: &Command<'_>, is_terminal: bool) -> u64 {
     if reads_lines(command.action) {
         u64::MAX
     } else if is_terminal {
-        3 * LONGEST_LINE
+        3 * MAX_LINE_LEN
     } else {
-        2 * LONGEST_LINE
+        2 * MAX_LINE_LEN
     }
 }
 
@@ -64,7 +64,7 @@ fn serve_terminal<R: BufRead, W: Write>(
 ) -> u8 {
     let Some(questions) = questions_of(command.action) else {
         if reads_lines(command.action) && errors.is_terminal() {
-            let parts = [PROGRAM.as_bytes(), b": lines NAME:TEXT, then Ctrl-D"];
+            let parts = [PROGRAM.as_bytes(), b": lines NAME:HASH, then Ctrl-D"];
             let _ = write_line(errors, &parts);
         }
         return serve(rt, command, input, output, errors);

@@ -1,19 +1,18 @@
-//! Accounts in a file.
+//! The commands on accounts in a file that change no single name: `verify`, `list`, `export`, `import` and `check-file`.
 
 ghost use Rattle.std.specs.Prelude.{◌≡◌, ◌∷◌, ◌⊎◌, [], ℕ, List, Option, Some, Ok, IfErr, IfOk, MatchResult, OnErr, map, string_bytes};
-ghost use Rattle.argon2_passwd.specs.Answers.{AddsLines, EndsOrFailsToOpen, FailsToRead, FileUse, IsLogin, ReadsText, IsOpened, IsSalt, EndsAction, database_of, entry_of, drawn_salt, option_map, policy_value, status_of};
+ghost use Rattle.argon2_passwd.specs.Answers.{AddsLines, EndsOrFailsToOpen, FailsToRead, FileUse, IsLogin, ReadsText, IsOpened, IsSalt, EndsAction, database_of, entry_of, drawn_salt, login_by, option_map, policy_value, status_of};
 
-use super::edits::{edit, edit_file};
-use super::others::import_others;
-use super::{check, generator, hash, say};
+use super::edits::edit_file;
+use super::{generator, say};
 use crate::command::{Action, Task};
 use crate::entries::read_all;
 use crate::failure::{Failure, Flaw};
 use crate::lines::{entries_and_flaws, read_lines};
 use crate::outside::{IfAbsent, Outside, RowCheck};
 use crate::passwords::read_password;
-use argon2::login::{Accepted, LoggedIn};
-use argon2_policy::Policy;
+use argon2::login::Accepted;
+use argon2_policy::{LoggedIn, Policy};
 use argon2_rows::StoredText;
 use argon2_store::{AccountFile, Edit, FileError, OpenError, View};
 use rand_core::Rng;
@@ -21,7 +20,7 @@ use sqlite_trees::store::Store;
 use std::alloc::Global;
 use std::io::{BufRead, Write};
 
-/// Where the accounts are, and under what they are served.
+/// The file that a command uses, how it is opened, and the policy for its texts.
 #[derive(Clone, Copy)]
 pub(super) struct Access<'a> {
     pub(super) path: &'a str,
@@ -30,47 +29,8 @@ pub(super) struct Access<'a> {
     pub(super) policy: &'a Policy<'a>,
 }
 
-/// Does what is asked for, under a policy.
-pub(super) fn serve<P: Outside, R: BufRead, W: Write>(
-    alloc: Global,
-    outside: &mut P,
-    policy: &Policy<'_>,
-    action: Action<'_>,
-    input: &mut R,
-    output: &mut W,
-) -> Result<(), Failure>
-    requires { P.closed outside.old [] }
-    ensures { EndsAction P.File.Store P.gives (policy_value policy.now) action.entry
-        result (R.remaining input.old) (W.contents output.old) (W.contents output.new) (P.closed outside.new) }
-{
-    match action {
-        Action::Hash => hash(alloc, outside, policy, input, output),
-        Action::Check(text) => check(alloc, outside, policy, text, input, output),
-        Action::OnFile(path, task) => {
-            let if_absent = task.if_absent();
-            outside.check_path(path, if_absent)?;
-            let access = &Access {
-                path,
-                if_absent,
-                rows: task.rows(),
-                policy,
-            };
-            match task {
-                Task::Verify(name) => verify(alloc, outside, access, name, input, output),
-                Task::Edit(change, name) => edit(alloc, outside, access, change, name, input),
-                Task::Show(view) => show(outside, access, view, output),
-                Task::Import { any_text } => import(alloc, outside, access, any_text, input),
-                Task::ImportOthers { any_text } => {
-                    import_others(alloc, outside, access, any_text, input)
-                }
-                Task::CheckFile => check_file(outside, access),
-            }
-        }
-    }
-}
-
-// Writes what the text of a name in a file does with the next password.
-fn verify<P: Outside, R: BufRead, W: Write>(
+/// `verify`: logs a name in with the next password, and writes what became of its text.
+pub(super) fn verify<P: Outside, R: BufRead, W: Write>(
     alloc: Global,
     outside: &mut P,
     access: &Access<'_>,
@@ -89,8 +49,8 @@ fn verify<P: Outside, R: BufRead, W: Write>(
     say(output, accepted.as_str())
 }
 
-// Writes what a file has, a line for each name, up to the first that breaks it.
-fn show<P: Outside, W: Write>(
+/// `list` and `export`: writes a line for each name, up to the first name that would break its line.
+pub(super) fn show<P: Outside, W: Write>(
     outside: &mut P,
     access: &Access<'_>,
     view: View,
@@ -107,8 +67,8 @@ fn show<P: Outside, W: Write>(
     written.map_err(Failure::from)
 }
 
-// Opens a file, which checks it, and closes it.
-fn check_file<P: Outside>(outside: &mut P, access: &Access<'_>) -> Result<(), Failure>
+/// `check-file`: opens the file, which checks all its rows, and closes it.
+pub(super) fn check_file<P: Outside>(outside: &mut P, access: &Access<'_>) -> Result<(), Failure>
     requires { P.closed outside.old [] }
     ensures { (input output : Option (List ℕ)) → EndsAction P.File.Store P.gives
         (policy_value access.now.policy.now) (Action.OnFile access.now.path Task.CheckFile) result
@@ -119,8 +79,8 @@ fn check_file<P: Outside>(outside: &mut P, access: &Access<'_>) -> Result<(), Fa
     Ok(())
 }
 
-// Adds all names and texts of the input, each a line, to a file, or none.
-fn import<P: Outside, R: BufRead>(
+/// `import`: adds the names and texts of all lines of the input, or none.
+pub(super) fn import<P: Outside, R: BufRead>(
     alloc: Global,
     outside: &mut P,
     access: &Access<'_>,
@@ -144,7 +104,7 @@ fn import<P: Outside, R: BufRead>(
     added
 }
 
-// The accounts in a file. While another process has it open, the open is tried again.
+// Opens the file. While another process has the file open, the open is tried again.
 pub(super) fn open<P: Outside>(
     outside: &mut P,
     access: &Access<'_>,
@@ -169,7 +129,8 @@ pub(super) fn open<P: Outside>(
     Err(Failure::Unopened(OpenError::Busy))
 }
 
-// What the text of a name does with a password. No file is open while passwords are hashed.
+// Logs a name in: reads its text, verifies the password, and replaces a text that is renewed. No file is open while a password
+// is hashed.
 fn log_in<P: Outside, G: Rng>(
     outside: &mut P,
     access: &Access<'_>,
@@ -184,23 +145,27 @@ fn log_in<P: Outside, G: Rng>(
         (P.closed outside.new []) result }
 {
     let text = stored_text(outside, access, name)?;
-    let stored = text.as_deref();
-    let LoggedIn { accepted, fresh } = access.policy.log_in(rng, stored, password)?;
-    let Some(fresh) = fresh else {
-        return Ok(accepted);
+    let done = access.policy.log_in(rng, text.as_deref(), password)?;
+    let LoggedIn::Renewed(renewal) = done else {
+        return Ok(done.accepted());
     };
-    // (without a text no password is accepted)
-    let edit = Edit::Replace(stored.unwrap_or(""), &fresh);
-    match edit_file(outside, access, name, &edit) {
-        Ok(()) => Ok(accepted),
-        // The name was removed or locked meanwhile.
+    let edit = Edit::Replace(renewal.old, &renewal.fresh);
+    after_renewal(edit_file(outside, access, name, &edit))
+}
+
+// The answer of a login whose text was to be replaced. The login is refused if the name was removed or locked meanwhile. If the
+// fresh text can't be written for another reason, the login is accepted without it.
+fn after_renewal(renewed: Result<(), Failure>) -> Result<Accepted, Failure>
+    ensures { result ≡ login_by Accepted.Rehashed renewed }
+{
+    match renewed {
+        Ok(()) => Ok(Accepted::Rehashed),
         Err(failure) if failure.is_denial() => Err(failure),
-        // The password is accepted, though the fresh text can't be written.
         Err(_) => Ok(Accepted::Kept),
     }
 }
 
-// The text of a name in a file, if it has one.
+// Reads the text of a name, if the file has the name.
 pub(super) fn stored_text<P: Outside>(
     outside: &mut P,
     access: &Access<'_>,
@@ -219,7 +184,7 @@ pub(super) fn stored_text<P: Outside>(
     Ok(text?)
 }
 
-// Adds all entries, each a line, or none.
+// Adds the entries of all lines, or none. If a name is taken, the failure has the number of the first such line.
 fn add_all<S: Store>(
     accounts: &mut AccountFile<S>,
     entries: &[(&str, StoredText<'_>)],

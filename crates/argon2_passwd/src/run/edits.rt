@@ -1,10 +1,11 @@
-//! Changes of the text of one name in a file.
+//! The commands that change one name: `register`, `change`, `set`, `remove`, `lock` and `unlock`.
 
 ghost use Rattle.std.specs.Prelude.{◌≡◌, ◌∷◌, ◌++◌, [], ℕ, List, Option};
-ghost use Rattle.argon2_passwd.specs.Answers.{EndsOrFailsToOpen, EditsOnce, EndsAction, FileUse, named_edit, policy_value};
+ghost use Rattle.argon2_passwd.specs.Answers.{EndsOrFailsToOpen, EditsOnce, EndsAction, FileUse, edit_value, policy_value};
 
 use super::accounts::{Access, open, stored_text};
-use super::{generator, new_text};
+use super::generator;
+use super::texts::new_text;
 use crate::command::{Action, EditTask, Task};
 use crate::entries::name_flaw;
 use crate::failure::Failure;
@@ -14,7 +15,7 @@ use argon2_store::Edit;
 use std::alloc::Global;
 use std::io::BufRead;
 
-/// Changes the text of a name in a file, by the next passwords.
+/// Changes the text of a name, by the passwords of the input.
 pub(super) fn edit<P: Outside, R: BufRead>(
     alloc: Global,
     outside: &mut P,
@@ -56,7 +57,7 @@ pub(super) fn edit_file<P: Outside>(
 ) -> Result<(), Failure>
     requires { (uses : List (FileUse P.File)) × P.closed outside.old uses }
     ensures { (uses : List (FileUse P.File)) → P.closed outside.old uses → EndsOrFailsToOpen
-        (EditsOnce P.File.Store access.now.path.now (named_edit name.now edit.now)
+        (EditsOnce P.File.Store access.now.path.now name.now (edit_value edit.now)
         (λ more. P.closed outside.new (uses ++ more))) (P.closed outside.new uses) result }
 {
     let mut accounts = open(outside, access)?;
@@ -65,7 +66,7 @@ pub(super) fn edit_file<P: Outside>(
     done.map_err(Failure::from)
 }
 
-// Gives a name a text of the next password but one if its text accepts the next. No file is open while passwords are
+// `change`: the first password of the input is the old one, and the second is the new one. No file is open while passwords are
 // hashed.
 fn change<P: Outside, R: BufRead>(
     alloc: Global,
@@ -85,10 +86,9 @@ fn change<P: Outside, R: BufRead>(
     let (first, second) = (first.as_slice(), second.as_slice());
     let text = stored_text(outside, access, name)?;
     let stored = text.as_deref();
-    let fresh = access
+    let renewal = access
         .policy
         .change_password(&mut rng, stored, first, second)?;
-    // (without a text no password is accepted)
-    let edit = Edit::Replace(stored.unwrap_or(""), &fresh);
+    let edit = Edit::Replace(renewal.old, &renewal.fresh);
     edit_file(outside, access, name, &edit)
 }

@@ -1,4 +1,4 @@
-//! An import that passes over lines.
+//! `import --skip`, which passes over lines.
 
 ghost use Rattle.std.specs.Prelude.{◌≡◌, ◌||◌, [], ℕ, List, None, Err, Ok, Option, if◌then◌else◌, IfErr, IfOk, OnOk, map};
 ghost use Rattle.argon2_passwd.specs.Answers.{AddsOthers, Damaged, FailsToLook, HasNames, IsHonest, EndsAction, Looks, Serves, Texts, additions, database_of, entry_of, entry_or_flaw, has_name, has_text, is_refusal, line_has_name, new_line, new_lines, file_failure, policy_value, status_of};
@@ -16,7 +16,7 @@ use std::alloc::Global;
 use std::collections::BTreeSet;
 use std::io::BufRead;
 
-/// Adds names and texts of the input, each a line, to a file, together, and fails with the lines that it passes over.
+/// Adds the names and texts of all lines that may be added, in one transaction, and fails with the numbers of the other lines.
 pub(super) fn import_others<P: Outside, R: BufRead>(
     alloc: Global,
     outside: &mut P,
@@ -37,7 +37,7 @@ pub(super) fn import_others<P: Outside, R: BufRead>(
     added
 }
 
-// Adds the entries of lines whose names neither the file nor an earlier line has.
+// Adds the entries of the lines whose names neither the file nor an earlier line has.
 fn add_others<S: Store>(
     alloc: Global,
     accounts: &mut AccountFile<S>,
@@ -55,7 +55,7 @@ fn add_others<S: Store>(
     }
 }
 
-// The lines, unless their names are taken by the file or by an earlier line.
+// Each line, or the flaw that the file or an earlier line has its name.
 fn new_lines<'a, S: Store>(
     alloc: Global,
     accounts: &mut AccountFile<S>,
@@ -76,7 +76,7 @@ fn new_lines<'a, S: Store>(
     Ok(found)
 }
 
-// The line, unless its name is one of these, which it joins, or the file has it.
+// The line, or the flaw that its name is taken: `names` or the file has the name. A name of an entry joins `names`.
 fn unless_taken<'a, S: Store>(
     accounts: &mut AccountFile<S>,
     names: &mut BTreeSet<&'a str>,
@@ -104,7 +104,7 @@ fn unless_taken<'a, S: Store>(
     }
 }
 
-// Adds entries whose names were looked up. If a name is taken all the same, the disk has given a wrong answer.
+// Adds entries whose names were looked up. If a name is taken nevertheless, the disk gave a wrong answer.
 fn add_new<S: Store>(
     accounts: &mut AccountFile<S>,
     entries: &[(&str, StoredText<'_>)],

@@ -1,6 +1,6 @@
 use Rattle.argon2_passwd.proofs.Common.{[], AllZip, append-nil, arith, entry_or_flaw, IsEntryOrFlaw, lines, rules, subst, sym, unmarked, ◌==◌, ◌∷◌}
 use Rattle.std.proofs.lemmas.List.Sorted.{answers_always}
-use Rattle.argon2_passwd.proofs.LineLemmas.{lines_first, map-push, none_left}
+use Rattle.argon2_passwd.proofs.LineLemmas.{lines_first, map-push, lines-empty}
 use Rattle.argon2_passwd.proofs.lines.read_lines.Goals as goal
 
 pub loop-line-preserved : goal.loop-line-preserved
@@ -20,7 +20,7 @@ loop-line-preserved c =
 pub returns : goal.returns
 returns c =
     subst (AllZip (IsEntryOrFlaw c.args.any_text) (lines (unmarked c.args.input.now))) (append-nil _)
-    (c.loop-line.invariant [] (none_left _ _ c.in-None.ensures.steps.0))
+    (c.loop-line.invariant [] (lines-empty _ _ c.in-None.ensures.steps.0))
 
 pub loop-line-init : goal.loop-line-init
 loop-line-init c = grind arith

@@ -5,19 +5,19 @@ use Rattle.argon2_passwd.specs.declared.failure.Failure.TheVariants.{Line}
 use Rattle.argon2_passwd.specs.declared.failure.Flaw.TheVariants.{Taken}
 use Rattle.argon2_passwd.proofs.run.accounts.add_all.Goals as goal
 
--- a failure of the file is no flaw of a line
+-- an error of the file other than a taken name fails to add the entries
 module _ {S : Type 0} {g : Ghosts S} (es : List (List ℕ × List ℕ)) (failure : Failure) (before after : AccountFile S g) where
-  fails : (e : FileError) → e ≢ NameTaken → failure ≡ file_failure e → FailsToAdd e es failure before after
-  fails NameTaken isnt is = absurd (isnt refl)
-  fails NameUnknown isnt is = is
-  fails Changed isnt is = is
-  fails Locked isnt is = is
-  fails OutOfMemory isnt is = is
-  fails Io isnt is = is
-  fails Damaged isnt is = is
-  fails Full isnt is = is
-  fails TooLong isnt is = is
-  fails Closed isnt is = is
+  file_failure_fails_to_add : (e : FileError) → e ≢ NameTaken → failure ≡ file_failure e → FailsToAdd e es failure before after
+  file_failure_fails_to_add NameTaken isnt is = absurd (isnt refl)
+  file_failure_fails_to_add NameUnknown isnt is = is
+  file_failure_fails_to_add Changed isnt is = is
+  file_failure_fails_to_add Locked isnt is = is
+  file_failure_fails_to_add OutOfMemory isnt is = is
+  file_failure_fails_to_add Io isnt is = is
+  file_failure_fails_to_add Damaged isnt is = is
+  file_failure_fails_to_add Full isnt is = is
+  file_failure_fails_to_add TooLong isnt is = is
+  file_failure_fails_to_add Closed isnt is = is
 
 pub returns-in-NameTaken : goal.returns-in-NameTaken
 returns-in-NameTaken g c = (
@@ -33,5 +33,5 @@ pub returns-in_default : goal.returns-in_default
 returns-in_default g c = (
   c.in-Err.error,
   c.in-Err.ensures.call,
-  fails _ c.into.result _ _ c.in-Err.error c.in_default.not-NameTaken c.into.ensures,
+  file_failure_fails_to_add _ c.into.result _ _ c.in-Err.error c.in_default.not-NameTaken c.into.ensures,
 )

@@ -1,18 +1,59 @@
-use Rattle.argon2_passwd.proofs.Common.{answer_without_text, ap, arith, Denies, Err, err_is, Failure, false, inl, inr, is_denial, is_text, looked_as, looked_then, Ok, option_map, policy_value, refl}
-use Rattle.argon2_passwd.proofs.Common.{SaysValue, status_of, string_bytes, subst, sym, text_or, true, ◌∙◌, ◌≡◌, ◌≢◌}
+use Rattle.argon2_passwd.proofs.Common.{[], accepted_of, ap, arith, database_of, Denies, Err, err_is, Failure, FileUse, Ghosts, inl, inr, List, text_read_by_bytes, same_use_then, None, Ok, Option, option_copied, option_map}
+use Rattle.argon2_passwd.proofs.Common.{phc_of, policy_value, PolicyValue, ReadsText, refl, Result, SaysValue, Some, status_of, string_bytes, subst, sym, ℕ, ◌∙◌, ◌∷◌, ◌≡◌, ◌≢◌}
+use Rattle.argon2_base.specs.PhcText.{phc_text}
+use Rattle.argon2_store.specs.Edits.{replacing}
+use Rattle.argon2_passwd.specs.Answers.{answer_without_text, EditsOnce, EndsLogin, EndsOrFailsToOpen, IsAcceptedLogin, IsSalt, login_by, LogsIn, Outcome, Phc}
 use Rattle.argon2.specs.declared.login.answers.Accepted.{Accepted}
-use Rattle.argon2.specs.declared.login.answers.Accepted.TheVariants.{Current, Kept, Rehashed}
+use Rattle.argon2.specs.declared.login.answers.Accepted.TheVariants.{Kept, Rehashed}
+use Rattle.argon2_policy.specs.declared.login.LoggedIn.{LoggedIn}
+use Rattle.argon2_policy.specs.declared.login.LoggedIn.TheVariants as login
+use Rattle.argon2_policy.specs.declared.login.Renewal.{Renewal}
 use Rattle.argon2_passwd.proofs.run.accounts.log_in.Goals as goal
 
--- a refusal is no failure of the file
-denies : (failure : Failure) → is_denial failure ≡ true → ¬ (status_of failure ≡ 3)
-denies failure is three = grind arith
+-- what says a value is a text that is stored
+value_is_of_text : (stored : Option (List ℕ)) (v : Phc) → SaysValue stored v → (text : List ℕ) × (stored ≡ Some text)
+value_is_of_text None v says = absurd says
+value_is_of_text (Some text) v says = (text, refl)
 
--- what did not renew a text is answered as it is
-without_text : (did : Accepted) → did ≢ Rehashed → did ≡ answer_without_text did
-without_text Current isnt = refl
-without_text Rehashed isnt = absurd (isnt refl)
-without_text Kept isnt = refl
+-- a login that renews no text is answered as it is
+unrenewed_login_keeps_answer : (done : LoggedIn) → ((renewal : Renewal) → done ≢ login.Renewed renewal)
+    → accepted_of done ≡ answer_without_text (accepted_of done)
+unrenewed_login_keeps_answer login.Current isnt = refl
+unrenewed_login_keeps_answer (login.Renewed renewal) isnt = absurd (isnt renewal refl)
+unrenewed_login_keeps_answer login.Kept isnt = refl
+
+-- a file that can't be opened to write the fresh text refuses no login
+unopened_file_keeps_login : (failure : Failure) → status_of failure ≡ 3 → login_by Rehashed (Err failure) ≡ Ok Kept
+unopened_file_keeps_login failure three = grind arith
+
+module _ {S : Type 0} {g : Ghosts S} {path name old : List ℕ} (Closed : List (FileUse S) → Type 0) where
+  -- a login whose text was to be replaced ends by the outcome of the replacement
+  replacement_ends_login : (w : Phc) (read : FileUse S) (done : Outcome)
+      → EndsOrFailsToOpen (EditsOnce g path name (replacing old (phc_text w)) (λ more. Closed (read ∷ more))) (Closed (read ∷ []))
+      done → EndsLogin g path name old w Rehashed (login_by Rehashed done) Closed read
+  replacement_ends_login w read done (inl edited) = inr (done, refl, edited)
+  replacement_ends_login w read (Ok x) (inr (closed, never)) = absurd never
+  replacement_ends_login w read (Err failure) (inr (closed, three)) = inl (unopened_file_keeps_login failure three, closed)
+
+  -- a login is accepted by the text that was read, and ends as `ends` says
+  text_logs_in : {Gives : List ℕ → Type 0} {policy : PolicyValue} {password drawn : List ℕ} {stored found : Option (List ℕ)}
+      (v w : Phc) (did : Accepted) {result : Result Accepted Failure} {Next : FileUse S → Type 0}
+      → IsSalt Gives drawn → stored ≡ found → stored ≡ Some old → SaysValue stored v → LogsIn policy password drawn v did w
+      → (read : ReadsText g path name (Ok found) Next)
+      → EndsLogin g path name old w did result Closed
+      (record { path = path; first = database_of read.before; last = database_of read.after })
+      → IsAcceptedLogin g Gives policy path name password result Closed
+  text_logs_in {stored = stored} v w did salt same is says logs_in read ends = record {
+    old = old;
+    drawn = _;
+    value = v;
+    next = w;
+    did = did;
+    salt = salt;
+    says = subst (λ o. SaysValue o v) is says;
+    logs_in = logs_in;
+    read = text_read_by_bytes name (sym same ∙ is) (same_use_then read ends);
+  }
 
 pub returns-in_err-text : goal.returns-in_err-text
 returns-in_err-text g c =
@@ -22,107 +63,37 @@ returns-in_err-text g c =
       | inr untouched ↦ inr untouched
     ])
 
-pub returns-in_err-accepted : goal.returns-in_err-accepted
-returns-in_err-accepted g c =
+pub returns-in_err-done : goal.returns-in_err-done
+returns-in_err-done g c =
     let policy = policy_value c.args.access.now.policy.now in
-    let denied = subst (λ o. Denies policy c.args.password.now o c.in_err-accepted.field-0.0) c.as_deref-stored.ensures.value
-    c.in_err-accepted.ensures.step in
-    rw (err_is _ _ c.from_residual-in_err-accepted.ensures.1)
+    let denied = subst (λ o. Denies policy c.args.password.now o c.in_err-done.field-0.0) c.as_deref.ensures.value
+    c.in_err-done.ensures.step in
+    rw (err_is _ _ c.from_residual-in_err-done.ensures.1)
     (inl (inl (inl (
       option_map string_bytes c.in_ok-text.text,
-      (c.in_err-accepted.field-0.0, denied, refl),
+      (c.in_err-done.field-0.0, denied, refl),
       c.in_ok-text.ensures,
     ))))
 
 pub returns-in_default : goal.returns-in_default
 returns-in_default g c =
-    let (v, says, logs_in) = rw c.in_default.is at c.in_ok-accepted.ensures.step in
-    let (old, is) = is_text c.as_deref-stored.result v says in
-    let looked = looked_as c.args.name.now (sym c.as_deref-stored.ensures.value ∙ is) c.in_ok-text.ensures in
-    let never = (rw c.in_default.is at c.in_ok-accepted.ensures.fresh).1 in
-    let same = without_text c.in_ok-accepted.field-0.accepted (λ is. let none = never is in absurd cc) in
-    inl (inr (
-      old,
-      _,
-      v,
-      _,
-      _,
-      c.requires.salt,
-      subst (λ o. SaysValue o v) is says,
-      logs_in,
-      looked_then looked (inl (ap Ok same, looked.next)),
-    ))
-
-pub returns-in-Ok : goal.returns-in-Ok
-returns-in-Ok g c =
-    let (v, says, logs_in) = rw c.in-Some.is at c.in_ok-accepted.ensures.step in
-    let is = text_or c.as_deref-stored.result v _ c.unwrap_or.result c.unwrap_or.ensures says in
-    let looked = looked_as c.args.name.now (sym c.as_deref-stored.ensures.value ∙ is) c.in_ok-text.ensures in
-    elim (rw c.in-Ok.is at c.edit_file.ensures _ looked.next) [
-      | inl applied ↦ inl (inr (
-        _,
-        _,
-        v,
-        _,
-        _,
-        c.requires.salt,
-        subst (λ o. SaysValue o v) is says,
-        logs_in,
-        looked_then looked (inr (Ok tt, refl, applied)),
-      ))
-      | inr (shut, never) ↦ absurd never
-    ]
-
-pub returns-in-Err : goal.returns-in-Err
-returns-in-Err g c =
-    let (v, says, logs_in) = rw c.in-Some.is at c.in_ok-accepted.ensures.step in
-    let is = text_or c.as_deref-stored.result v _ c.unwrap_or.result c.unwrap_or.ensures says in
-    let looked = looked_as c.args.name.now (sym c.as_deref-stored.ensures.value ∙ is) c.in_ok-text.ensures in
-    let denied : is_denial c.in-Err.failure ≡ true = sym c.is_denial.ensures ∙ c.if-is_denial.true in
-    elim (rw c.in-Err.is at c.edit_file.ensures _ looked.next) [
-      | inl applied ↦ inl (inr (
-        _,
-        _,
-        v,
-        _,
-        _,
-        c.requires.salt,
-        subst (λ o. SaysValue o v) is says,
-        logs_in,
-        looked_then looked (inr (Err _, rw denied refl, applied)),
-      ))
-      | inr (shut, three) ↦ absurd (denies _ denied three)
-    ]
+    let (v, says, logs_in) = c.in_ok-done.ensures.step in
+    let (old, is) = value_is_of_text (option_copied c.as_deref.result) v says in
+    let Closed = g.P.Outside.closed c.stored_text.new.outside in
+    inl (inr (text_logs_in Closed v _ _ c.requires.salt c.as_deref.ensures.value is says logs_in
+    c.in_ok-text.ensures
+    (inl (
+      ap Ok (c.accepted.ensures ∙ unrenewed_login_keeps_answer c.in_ok-done.done c.in_default.not-Renewed),
+      c.in_ok-text.ensures.next,
+    ))))
 
 pub returns : goal.returns
 returns g c =
-    let (v, says, logs_in) = rw c.in-Some.is at c.in_ok-accepted.ensures.step in
-    let is = text_or c.as_deref-stored.result v _ c.unwrap_or.result c.unwrap_or.ensures says in
-    let looked = looked_as c.args.name.now (sym c.as_deref-stored.ensures.value ∙ is) c.in_ok-text.ensures in
-    let fresh = (rw c.in-Some.is at c.in_ok-accepted.ensures.fresh).0 refl in
-    let kept = ap (λ did. Ok (answer_without_text did)) (sym fresh) in
-    let isnt : is_denial c.in-Err.failure ≡ false = sym c.is_denial.ensures ∙ c.if-is_denial.false in
-    elim (rw c.in-Err.is at c.edit_file.ensures _ looked.next) [
-      | inl applied ↦ inl (inr (
-        _,
-        _,
-        v,
-        _,
-        _,
-        c.requires.salt,
-        subst (λ o. SaysValue o v) is says,
-        logs_in,
-        looked_then looked (inr (Err _, rw isnt kept, applied)),
-      ))
-      | inr (shut, three) ↦ inl (inr (
-        _,
-        _,
-        v,
-        _,
-        _,
-        c.requires.salt,
-        subst (λ o. SaysValue o v) is says,
-        logs_in,
-        looked_then looked (inl (kept, shut)),
-      ))
-    ]
+    let w = phc_of c.in-Renewed.renewal.fresh in
+    let (v, says, logs_in) = rw c.in-Renewed.is at c.in_ok-done.ensures.step in
+    let is = rw c.in-Renewed.is at c.in_ok-done.ensures.old in
+    let Closed = g.P.Outside.closed c.edit_file.new.outside in
+    let ends = replacement_ends_login Closed w _ c.edit_file.result
+    (c.edit_file.ensures _ c.in_ok-text.ensures.next) in
+    inl (inr (text_logs_in Closed v w Rehashed c.requires.salt c.as_deref.ensures.value is says logs_in
+    c.in_ok-text.ensures (rw c.after_renewal.ensures ends)))

@@ -1,4 +1,4 @@
-use Rattle.argon2_passwd.proofs.Common.{[], inl, opened_for, rules}
+use Rattle.argon2_passwd.proofs.Common.{[], inl, file_was_used, rules}
 use Rattle.argon2_passwd.proofs.run.accounts.show.Goals as goal
 
 pub returns : goal.returns
@@ -8,5 +8,5 @@ returns g c input =
     inl (
       c.write_lines-written.result,
       search rules,
-      opened_for _ _ c.in_ok-accounts.ensures.ok (λ names has. (lines.reads names has, lines.shows names has)) closed,
+      file_was_used _ _ c.in_ok-accounts.ensures.ok (λ names has. (lines.reads names has, lines.shows names has)) closed,
     )

@@ -1,5 +1,5 @@
 use Rattle.std.proofs.lemmas.Map.Text.{is_eq-slice_cmp}
-use Rattle.argon2_passwd.proofs.Common.{arith, err_is, false, has_name, inr, has_text, no_refusal, refl, Some, true, ◌≡◌}
+use Rattle.argon2_passwd.proofs.Common.{arith, err_is, false, has_name, inr, has_text, failed_file_has_status_3, refl, Some, true, ◌≡◌}
 use Rattle.argon2_passwd.proofs.run.others.unless_taken.Goals as goal
 
 pub returns-then-not-branch-clause-new : goal.returns-then-not-branch-clause-new
@@ -10,7 +10,7 @@ pub returns-in_err-text_of-clause-fails : goal.returns-in_err-text_of-clause-fai
 returns-in_err-text_of-clause-fails g c =
     let e = c.in_err-text_of.field-0.0 in
     rw (err_is _ _ c.from_residual-in_err-text_of.ensures.1)
-    (no_refusal e c.in_err-text_of.ensures.error, (Some e, inr c.in_err-text_of.ensures.reads, refl))
+    (failed_file_has_status_3 e c.in_err-text_of.ensures.error, (Some e, inr c.in_err-text_of.ensures.reads, refl))
 
 pub returns-then-is_some-clause-new : goal.returns-then-is_some-clause-new
 returns-then-is_some-clause-new g c known has = λ honest.

@@ -1,5 +1,5 @@
 use Rattle.argon2_passwd.proofs.Common.{None}
-use Rattle.argon2_passwd.proofs.run.accounts.serve.Goals as goal
+use Rattle.argon2_passwd.proofs.run.serve.Goals as goal
 
 pub returns-in-Edit : goal.returns-in-Edit
 returns-in-Edit g c = rw (c.in-OnFile.is, c.in-Edit.is) (c.edit.ensures _)
