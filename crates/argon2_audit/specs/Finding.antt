@@ -19,16 +19,16 @@ use Rattle.argon2_audit.specs.declared.finding.Class.{Class}
 use Rattle.argon2_audit.specs.declared.finding.Class.TheVariants as class
 use Rattle.argon2_audit.specs.declared.finding.Finding.{Finding}
 use Rattle.argon2_audit.specs.declared.finding.Finding.TheVariants.{TooLong, Claimed, NotUtf8, Refused, Shown}
-use Rattle.argon2_audit.specs.declared.limits.Entry.{Entry}
+use Rattle.argon2_audit.specs.declared.entry.Entry.{Entry}
 use Rattle.argon2_audit.specs.declared.limits.Limits.{Limits}
 
 -- ---- fields
 
--- a separator stands in the line
+-- the line has a separator
 abbrev pub is_cut : ℕ → List ℕ → Bool
 is_cut separator line = nat_lt (position_or_len (λ byte. byte == separator) line) (length line)
 
--- a byte of numbers with colons between them
+-- the byte is a digit or a colon
 abbrev pub is_number : ℕ → Bool
 is_number byte = is_ascii_digit byte || (byte == 58)
 
@@ -45,13 +45,13 @@ werkzeug = codes "scrypt:" ∷ codes "pbkdf2:sha1:" ∷ codes "pbkdf2:sha256:" �
 abbrev pub is_werkzeug : List ℕ → Bool
 is_werkzeug line = begins_any werkzeug line && has_numbers (after_any werkzeug line)
 
--- where a field ends that begins with a quote: at a separator after an even number of quotes
+-- the index at which a field with a quote at its start ends: the first separator after an even number of quotes
 abbrev pub quoted_end : ℕ → Bool → List ℕ → ℕ
 quoted_end separator is_odd [] = 0
 quoted_end separator is_odd (byte ∷ rest) = if (byte == separator) && not is_odd then 0
     else suc (quoted_end separator (if byte == 34 then not is_odd else is_odd) rest)
 
--- where the first field ends
+-- the index at which the first field ends
 abbrev pub field_end : ℕ → List ℕ → ℕ
 field_end separator line = if begins_any ((34 ∷ []) ∷ []) line then quoted_end separator false line
     else position_or_len (λ byte. byte == separator) line
@@ -66,12 +66,13 @@ field_numbered zero separator line = Some (strip_quotes (take (field_end separat
 field_numbered (suc before) separator line = if nat_lt (field_end separator line) (length line)
     then field_numbered before separator (drop (suc (field_end separator line)) line) else None
 
--- if no number is asked for, the second of the fields, or all if there is no separator
+-- the field of a number; if none is asked for, the second field, or the whole line if it has one field or is a text of Werkzeug
 abbrev pub field_by : Option ℕ → ℕ → List ℕ → Option (List ℕ)
 field_by None separator line =
     Some (if is_werkzeug line then line else unwrap_or (field_numbered 1 separator line) (strip_quotes line))
 field_by (Some before) separator line = field_numbered before separator line
 
+-- the text in a field of a line, if the line has the field
 abbrev pub field_in : Field → List ℕ → Option (List ℕ)
 field_in field line = field_by field.before field.separator line
 
@@ -81,6 +82,7 @@ field_in field line = field_by field.before field.separator line
 abbrev pub trim_line : List ℕ → List ℕ
 trim_line line = strip_last 13 (after_any ((239 ∷ 187 ∷ 191 ∷ []) ∷ []) line)
 
+-- the byte is a space or a tab
 abbrev pub is_space : ℕ → Bool
 is_space byte = (byte == 32) || (byte == 9)
 
@@ -92,7 +94,7 @@ claim_of_text text =
     else if begins_any (codes "!" ∷ codes "*" ∷ []) text then Locked
     else unwrap_or (option_map Other (scheme_of text)) Unknown
 
--- a line of spaces and tabs is blank, one that begins with `#` is a comment, and any other claims what its field does
+-- A line of spaces and tabs is blank, and a line that begins with `#` is a comment. Any other line claims what its field claims.
 abbrev pub claim_of : Field → List ℕ → Claim
 claim_of field line =
     if list_all is_space (trim_line line) then Blank
@@ -109,11 +111,11 @@ stored_in field line = unwrap_or (option_map without_prefix (field_in field (tri
 abbrev pub entry_value : Entry → SettingsValue × Option (List ℕ) × Option ℕ
 entry_value entry = (settings_value entry.settings, entry.salt, entry.hash_len)
 
--- what a value shows of these, or the fault of its settings
+-- the entry that a value shows, or the fault of its settings
 abbrev pub shown_entry : Phc → Result (SettingsValue × Option (List ℕ) × Option ℕ) Fault
 shown_entry v = result_and_then (shown_settings v) (λ settings. Ok (settings, v.salt, option_map length v.hash))
 
--- what a text shows by its value, or `EncodingInvalid` if it is no value's
+-- what reading an entry answers: what the value of the text shows, or `EncodingInvalid` if the text is outside the grammar
 abbrev pub IsEntryAnswer : List ℕ → Result Entry Error → Type 0
 IsEntryAnswer text r =
     ((v : Phc) × IsPhcText text v × (outcome_of entry_value r ≡ shown_entry v))
@@ -121,21 +123,22 @@ IsEntryAnswer text r =
 
 -- ---- what is below limits
 
--- there is a value, and it passes
+-- the value exists, and passes the test
 abbrev pub some_passes : {A : Type 0} → (A → Bool) → Option A → Bool
 some_passes test None = false
 some_passes test (Some x) = test x
 
+-- the salt of an entry is shorter than the limits ask for; a missing salt counts as 0 bytes
 abbrev pub is_short : Limits → Entry → Bool
 is_short limits entry = nat_lt (length (unwrap_or entry.salt [])) limits.salt_len
 
--- limits ask for another key identifier
+-- the limits require a key identifier other than the one of the entry
 abbrev pub has_other_key : Limits → Entry → Bool
 has_other_key limits entry = some_passes (λ required. not (bytes_eq (keyid_bytes required)
-    (settings_value entry.settings).parameters.keyid)) limits.key_id
+    (settings_value entry.settings).parameters.keyid)) limits.keyid
 
--- limits ask for more of something than there is, or for another algorithm or key identifier; what is missing has no
--- bytes
+-- something of the entry is below the limits, or the limits require another algorithm or key identifier; a missing salt or hash
+-- counts as 0 bytes
 abbrev pub is_below_limits : Limits → Entry → Bool
 is_below_limits limits entry = nat_lt (settings_value entry.settings).parameters.m_cost limits.m_cost
     || nat_lt (settings_value entry.settings).parameters.t_cost limits.t_cost
@@ -145,22 +148,23 @@ is_below_limits limits entry = nat_lt (settings_value entry.settings).parameters
     || some_passes (λ required. not (algorithm_number required == algorithm_number entry.settings.algorithm))
     limits.algorithm || has_other_key limits entry
 
--- ---- what a line comes to
+-- ---- what is found in a line
 
--- what a text that claims to be Argon2's comes to: it is no UTF-8, or what it shows
+-- what is found in a text that claims to be Argon2's: it is not UTF-8, or reading it gives an error or an entry
 abbrev pub IsTextFinding : List ℕ → Finding → Type 0
 IsTextFinding text NotUtf8 = ¬ IsUtf8 text
 IsTextFinding text (Refused error) = IsUtf8 text × IsEntryAnswer text (Err error)
 IsTextFinding text (Shown entry) = IsUtf8 text × IsEntryAnswer text (Ok entry)
 IsTextFinding text finding = ⊥
 
--- what a line comes to: it is too long, it claims to store something else, or what its text comes to
+-- what is found in a line: it is too long, it claims to store something else, or what is found in its text
 abbrev pub IsFinding : Field → List ℕ → Finding → Type 0
 IsFinding field line TooLong = 4096 < length line
 IsFinding field line (Claimed claim) = (length line ≤ 4096) × (claim_of field line ≡ claim) × (claim ≢ Argon2)
 IsFinding field line finding =
     (length line ≤ 4096) × (claim_of field line ≡ Argon2) × IsTextFinding (stored_in field line) finding
 
+-- the class of a finding
 abbrev pub class_of : Limits → Finding → Class
 class_of limits (Claimed (Other scheme)) = class.Other
 class_of limits (Claimed Locked) = class.Locked

@@ -14,7 +14,7 @@ pub enum Claim {
     Argon2,
     /// A text of another scheme.
     Other(Scheme),
-    /// Nothing that any password opens.
+    /// A text that no password opens.
     Locked,
     /// A text with no bytes.
     Empty,
@@ -22,7 +22,7 @@ pub enum Claim {
     Blank,
     /// No entry: the line begins with `#`.
     Comment,
-    /// The line has not as many fields as were asked for.
+    /// The line lacks the field that is asked for.
     NoField,
     /// A text of no scheme that is known here.
     Unknown,
@@ -59,7 +59,7 @@ pub fn trim_line(line: &[u8]) -> &[u8]
     without_last(after_any(line, &["\u{feff}"]), b'\r')
 }
 
-/// The bytes without the last one, if it is this.
+/// The bytes without the last byte, if that is `last`.
 pub fn without_last(bytes: &[u8], last: u8) -> &[u8]
     ensures { result.now ≡ strip_last last bytes.now }
 {

@@ -12,7 +12,8 @@ use memchr::memchr;
 /// Which of a line's fields is its text.
 #[derive(Clone, Copy)]
 pub struct Field {
-    /// How many fields stand before it; none if it is the second, or all of a line with one field or of a text of Werkzeug.
+    /// The number of fields before it. `None` stands for the second field, or for the whole line if the line has one field or
+    /// is a text of Werkzeug.
     pub before: Option<u32>,
     /// The byte between two fields.
     pub separator: u8,

@@ -4,8 +4,9 @@ ghost use Rattle.std.specs.Prelude.{◌≤◌, length};
 ghost use Rattle.argon2_audit.specs.Finding.{IsFinding, IsTextFinding};
 
 use crate::claim::{Claim, claim_of_text, is_blank, trim_line};
+use crate::entry::{Entry, read_entry};
 use crate::field::Field;
-use crate::limits::{Entry, Limits, read_entry};
+use crate::limits::Limits;
 use argon2::password_hash::Error;
 use argon2_schemes::{begins_any, without_prefix};
 
@@ -14,11 +15,11 @@ use argon2_schemes::{begins_any, without_prefix};
 pub enum Finding {
     /// The line has more bytes than any line may have.
     TooLong,
-    /// The line claims to store something else than a text of Argon2.
+    /// The line claims to store something other than a text of Argon2.
     Claimed(Claim),
     /// The text claims to be Argon2's, and is not UTF-8.
     NotUtf8,
-    /// The text claims to be Argon2's, and is outside the grammar, or shows what Argon2 does not have.
+    /// The text claims to be Argon2's, and reading it fails with this error.
     Refused(Error),
     /// What the text shows.
     Shown(Entry),
@@ -33,7 +34,7 @@ pub enum Class {
     NoHash,
     /// Something of its text is below the limits.
     Below,
-    /// Nothing of its text is.
+    /// Nothing of its text is below the limits.
     Sound,
     /// Its text is of another scheme.
     Other,

@@ -2,10 +2,13 @@
 #![tactic(auto)]
 
 mod claim;
+mod entry;
 mod field;
 mod finding;
-mod findings;
+mod json_report;
+mod kind;
 mod limits;
+mod options;
 mod report;
 pub mod run;
 mod seen;
@@ -13,4 +16,6 @@ mod session;
 mod tally;
 
 pub use field::Field;
-pub use limits::{Form, Limits, Options};
+pub use limits::Limits;
+pub use options::{Form, Options};
+pub use tally::Tally;

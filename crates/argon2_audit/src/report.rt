@@ -1,8 +1,11 @@
 //! What is written: remarks on lines, and the table.
 
 use crate::claim::Claim;
+use crate::entry::Entry;
 use crate::finding::{Class, Finding};
-use crate::limits::{Entry, Kind, Limits, Options};
+use crate::kind::Kind;
+use crate::limits::Limits;
+use crate::options::Options;
 use crate::session::Session;
 use argon2::Algorithm;
 use argon2::password_hash::Error;
@@ -15,27 +18,28 @@ use std::{fmt, io};
 // The head of the table of kinds.
 const KINDS: &str = "\nalgorithm  version           m           t         p       lines";
 
-/// Where a line stands.
+/// The file and the number of a line.
 #[derive(Clone, Copy)]
-pub struct Place<'a> {
-    /// The file's name, if there are several. Lines show it so that a terminal acts on none of its characters: a control
-    /// character as `\x` and the two digits of its code, and `\` twice.
+pub struct Location<'a> {
+    /// The name of the file, if several files are read. Lines show it so that a terminal acts on none of its characters: a
+    /// control character as `\x` and the two digits of its code, and `\` twice.
     pub file: Option<&'a str>,
     /// The line's number in its file.
     pub line: u64,
 }
 
-impl Place<'_> {
-    /// The place of the line with this number among all lines, if this place is after the lines of the files before.
+impl Location<'_> {
+    /// The location of the line with the number `line` among all lines. `self` is the end of the files before: its line is the
+    /// number of their lines.
     pub fn at_line(self, line: u64) -> Self {
-        Place {
+        Location {
             file: self.file,
             line: line.saturating_sub(self.line),
         }
     }
 }
 
-impl Display for Place<'_> {
+impl Display for Location<'_> {
     fn fmt<W: fmt::Write>(&self, f: &mut fmt::Formatter<W>) -> fmt::Result {
         let Some(file) = self.file else {
             return write!(f, "line {}", self.line);
@@ -51,18 +55,18 @@ impl Display for Place<'_> {
     }
 }
 
-/// What keeps a line from being sound. Nothing of its name, salt and hash is said.
+/// Why a line is not sound. A remark shows nothing of the name, the salt and the hash.
 #[derive(Drop)]
 pub enum Remark<'a> {
     /// A code, and what it means.
     Text(&'static str, &'static str),
     Refused(&'a Error),
     Other(Scheme),
-    /// An algorithm, and the one that is required.
+    /// An algorithm, and the required algorithm.
     Algorithm(Algorithm, Algorithm),
-    /// A code, a cost or the version by its letter, and the least one.
+    /// A code, the letter of a cost or of the version, its value, and the least value.
     Number(&'static str, char, u32, u32),
-    /// A code, how many bytes the salt or the hash has, and the fewest.
+    /// A code, `salt` or `hash`, its length, and the least length.
     Length(&'static str, &'static str, u32, u32),
 }
 
@@ -96,29 +100,29 @@ impl Display for Remark<'_> {
     }
 }
 
-/// What takes remarks on lines.
+/// Receives remarks on lines.
 pub trait Remarks {
-    /// Takes a remark on a line.
-    fn add(&mut self, place: Place<'_>, remark: Remark<'_>) -> Result<(), Failure>;
+    /// Receives a remark on a line.
+    fn add(&mut self, location: Location<'_>, remark: Remark<'_>) -> Result<(), Failure>;
 }
 
-/// Each remark is written as a line.
+/// Writes each remark as a line.
 #[derive(Drop)]
 pub struct Lines<'a, W: Write> {
     pub output: &'a mut W,
 }
 
 impl<W: Write> Remarks for Lines<'_, W> {
-    fn add(&mut self, place: Place<'_>, remark: Remark<'_>) -> Result<(), Failure> {
-        writeln!(self.output, "{place}: {remark}")?;
+    fn add(&mut self, location: Location<'_>, remark: Remark<'_>) -> Result<(), Failure> {
+        writeln!(self.output, "{location}: {remark}")?;
         Ok(())
     }
 }
 
-/// Says of a line what keeps it from counting as sound, if remarks are asked for.
+/// Adds the remarks on a line, if remarks are asked for: why the line does not count as sound.
 pub fn remark_on<S: Remarks>(
     remarks: &mut S,
-    place: Place<'_>,
+    location: Location<'_>,
     finding: &Finding,
     options: &Options,
     has_equal_salt: bool,
@@ -133,20 +137,23 @@ pub fn remark_on<S: Remarks>(
         Finding::Refused(error) => Some(Remark::Refused(error)),
         Finding::Claimed(claim) => remark_on_claim(*claim, limits),
         Finding::Shown(entry) => {
-            add_remarks(remarks, place, entry, limits)?;
+            add_remarks(remarks, location, entry, limits)?;
             None
         }
     };
     if let Some(remark) = remark {
-        remarks.add(place, remark)?;
+        remarks.add(location, remark)?;
     }
     if has_equal_salt {
-        remarks.add(place, Remark::Text("equal-salt", "salt of an earlier line"))?;
+        remarks.add(
+            location,
+            Remark::Text("equal-salt", "salt of an earlier line"),
+        )?;
     }
     Ok(())
 }
 
-// A remark on what a line claims to store, if it is no text of Argon2 and not allowed.
+// The remark on what a line claims to store, if that is no text of Argon2 and not allowed.
 fn remark_on_claim(claim: Claim, limits: &Limits) -> Option<Remark<'static>> {
     match claim {
         Claim::Other(_) | Claim::Locked | Claim::Blank | Claim::Comment if limits.allows_other =>
@@ -154,7 +161,7 @@ fn remark_on_claim(claim: Claim, limits: &Limits) -> Option<Remark<'static>> {
         Claim::Argon2 => None,
         Claim::Other(scheme) => Some(Remark::Other(scheme)),
         Claim::Locked => Some(Remark::Text("locked", "locked")),
-        Claim::Empty => Some(Remark::Text("empty", "empty text")),
+        Claim::Empty => Some(Remark::Text("empty", "empty hash")),
         Claim::Blank => Some(Remark::Text("blank", "blank line")),
         Claim::Comment => Some(Remark::Text("comment", "comment")),
         Claim::NoField => Some(Remark::Text("no-field", "no such field")),
@@ -162,10 +169,10 @@ fn remark_on_claim(claim: Claim, limits: &Limits) -> Option<Remark<'static>> {
     }
 }
 
-// Says what of a text is below the limits.
+// Adds a remark for each thing of a text that is below the limits.
 fn add_remarks<S: Remarks>(
     remarks: &mut S,
-    place: Place<'_>,
+    location: Location<'_>,
     entry: &Entry,
     limits: &Limits,
 ) -> Result<(), Failure> {
@@ -177,16 +184,16 @@ fn add_remarks<S: Remarks>(
         ("v-below", 'v', u32::from(kind.version), limits.version),
     ] {
         if has < least {
-            remarks.add(place, Remark::Number(code, name, has, least))?;
+            remarks.add(location, Remark::Number(code, name, has, least))?;
         }
     }
     if let Some(required) = limits.algorithm
         && required != kind.algorithm
     {
-        remarks.add(place, Remark::Algorithm(kind.algorithm, required))?;
+        remarks.add(location, Remark::Algorithm(kind.algorithm, required))?;
     }
     if entry.has_other_key(limits) {
-        remarks.add(place, Remark::Text("key", "another key identifier"))?;
+        remarks.add(location, Remark::Text("key", "another key identifier"))?;
     }
     let (salt_len, least) = (entry.salt_len(), limits.salt_len);
     if salt_len < least {
@@ -194,19 +201,19 @@ fn add_remarks<S: Remarks>(
             Some(_) => Remark::Length("salt-below", "salt", salt_len, least),
             None => Remark::Text("no-salt", "no salt"),
         };
-        remarks.add(place, remark)?;
+        remarks.add(location, remark)?;
     }
     match entry.hash_len {
-        None => remarks.add(place, Remark::Text("no-hash", "no hash")),
+        None => remarks.add(location, Remark::Text("no-hash", "no hash")),
         Some(has) if has < limits.hash_len => {
             let remark = Remark::Length("hash-below", "hash", has, limits.hash_len);
-            remarks.add(place, remark)
+            remarks.add(location, remark)
         }
         Some(_) => Ok(()),
     }
 }
 
-/// Writes the counts, one a line, and then how many texts of Argon2 there are of each kind. The counts of lines that store
+/// Writes the counts, one to a line, and then the number of texts of Argon2 of each kind. The counts of lines that store
 /// no text of Argon2 are written only if there are such lines.
 pub fn write_table<W: Write>(output: &mut W, session: &Session) -> io::Result<()> {
     let tally = &session.tally;

@@ -5,9 +5,9 @@ ghost use Rattle.std.specs.Io.KnownBytes.{Keeps};
 ghost use Rattle.argon2_audit.specs.Audit.{IsTallied};
 ghost use Rattle.argon2_audit.specs.Object.{IsAudit, IsOfOutput, IsReport};
 
-use crate::findings::Findings;
-use crate::limits::{Form, Options};
-use crate::report::{Lines, Place, Remarks, write_table};
+use crate::json_report::JsonReport;
+use crate::options::{Form, Options};
+use crate::report::{Lines, Location, Remarks, write_table};
 use crate::session::Session;
 use crate::tally::Tally;
 use argon2_io::{Failure, write_line};
@@ -30,7 +30,7 @@ pub const PROGRAM: &str = "argon2-audit";
 // How many bytes are read at once.
 const PIECE: usize = 65536;
 
-// How many pieces are read at the most, so that lines can be counted.
+// The most pieces that are read, so that the number of lines fits into 64 bits.
 const PIECES: u64 = 1 << 47;
 
 // How many pieces are read between two numbers of lines.
@@ -42,9 +42,9 @@ const REMOVE: &[u8] = b"\r\x1b[K";
 /// Audits the lines of `input`, and returns the exit status.
 ///
 /// Status 0: the report is written, each line counts as sound and no two salts are equal. A text of another scheme, a
-/// locked line, a blank one and a comment count as sound only if the limits allow other schemes. Status 1: the report
-/// is written, and that is not so. Status 3: the failure's text is written to `errors`, which gets none if nobody reads
-/// `output` any more.
+/// locked line, a blank line and a comment count as sound only if the limits allow other schemes. Status 1: the report
+/// is written, and some line does not count as sound or two salts are equal. Status 3: the audit fails, and the
+/// failure's text is written to `errors`. If nobody reads `output` any more, no text is written.
 ///
 /// The JSON report is a line with one object, which is written once it is whole. If progress is to be shown, `errors`
 /// gets a line with the number of lines read so far, which is replaced from time to time, and removed in the end. If
@@ -75,8 +75,12 @@ pub fn run<R: Read + Named, W: Write, E: Write>(
     }
 }
 
-// Writes the report on all lines, and returns the counts.
-fn write_report<R: Read + Named, W: Write, E: Write>(
+/// Writes the report on all lines of `input`, and returns the counts.
+///
+/// # Errors
+/// A stream or a request for memory fails, or the input is too long. With [`Form::Json`] nothing is then written to
+/// `output`, unless its write fails.
+pub fn write_report<R: Read + Named, W: Write, E: Write>(
     alloc: Global,
     options: Options,
     input: &mut R,
@@ -101,9 +105,9 @@ fn write_report<R: Read + Named, W: Write, E: Write>(
             Ok(session.tally)
         }
         Form::Json => {
-            let mut findings = Findings::new(alloc)?;
-            let session = session_of(alloc, options, input, &mut findings, errors, shows_progress)?;
-            let text = findings.object(&session)?;
+            let mut report = JsonReport::new(alloc)?;
+            let session = session_of(alloc, options, input, &mut report, errors, shows_progress)?;
+            let text = report.object(&session)?;
             write_line(output, &[text.as_slice()])?;
             Ok(session.tally)
         }
@@ -152,8 +156,8 @@ fn session_of<R: Read + Named, S: Remarks, E: Write>(
     Err(Failure::Other("the input has too many pieces"))
 }
 
-// The number of a file, and how many lines are before it, when `lines` lines were read. Both change only if `number` is that of
-// another file.
+// The number of a file and the number of lines before it, after `lines` lines were read. Both change only if `number` is the
+// number of another file.
 fn before_file(before: (usize, u64), number: usize, lines: u64) -> (usize, u64) {
     if before.0 == number {
         before
@@ -162,12 +166,12 @@ fn before_file(before: (usize, u64), number: usize, lines: u64) -> (usize, u64) 
     }
 }
 
-// The file that is read, and the place in it after `line` lines in all.
-fn file_of<R: Named>(input: &R, line: u64) -> Place<'_> {
+// The file that is read, and the number of lines in the files before it.
+fn file_of<R: Named>(input: &R, line: u64) -> Location<'_> {
     let file = if input.number() > 0 {
         Some(input.name())
     } else {
         None
     };
-    Place { file, line }
+    Location { file, line }
 }

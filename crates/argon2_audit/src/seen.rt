@@ -1,4 +1,4 @@
-//! What texts there were so far.
+//! The kinds, the schemes and the salts of the texts so far.
 
 ghost use Rattle.std.specs.Prelude.{◌≡◌, ◌≤◌, ◌||◌, ℕ, List, IfOk, OnOk, length, not};
 ghost use Rattle.std.specs.Str.{bytes_eq};
@@ -6,18 +6,20 @@ ghost use Rattle.argon2_audit.specs.Audit.{has_key};
 
 use crate::claim::Claim;
 use crate::finding::Finding;
-use crate::limits::Kind;
+use crate::kind::Kind;
 use argon2::phc::Salt;
 use argon2_schemes::Scheme;
 use arrayvec::ArrayVec;
 use std::alloc::{AllocError, Global};
 use std::collections::{BTreeMap, BTreeSet};
 
-/// How many texts there were of each kind, and their salts. Its memory grows by a salt a text.
+/// The number of texts of each kind and of each other scheme, and the salts of the texts. Its memory grows by one salt for
+/// each text.
 #[derive(Drop)]
 pub struct Seen {
+    /// The number of texts of each kind.
     pub kinds: BTreeMap<Kind, u64>,
-    /// How many texts there were of each other scheme.
+    /// The number of texts of each other scheme.
     pub schemes: BTreeMap<Scheme, u64>,
     // Salts of up to 24 bytes, as most are, and longer ones.
     short: BTreeSet<ArrayVec<u8, 24>>,
@@ -42,10 +44,10 @@ impl Seen {
         }
     }
 
-    /// Counts a line's text of a scheme, if it has one, and returns whether its salt was there before.
+    /// Counts the text of a line, if the line has one, and returns whether an earlier text has its salt.
     ///
     /// # Errors
-    /// Memory may be refused. The salt may be kept then, and the text is not counted.
+    /// Memory is refused. The salt may then be kept, and the text is not counted.
     pub fn add(&mut self, finding: &Finding) -> Result<bool, AllocError>
         ensures equal { IfOk result
             (λ equal. equal ≡ some_passes (has_salt self.old) (salt_of finding.now)) }

@@ -1,12 +1,12 @@
-//! An audit of bytes as they come.
+//! An audit of bytes, which it reads in pieces.
 
 ghost use Rattle.std.specs.Prelude.{◌≡◌, ◌≤◌, IsTrue, vec_len};
-ghost use Rattle.argon2_audit.specs.declared.session.TheConstants.{LONGEST};
+ghost use Rattle.argon2_audit.specs.declared.session.TheConstants.{MAX_LINE_LEN};
 
 use crate::field::Field;
 use crate::finding::{Finding, finding_of};
-use crate::limits::Options;
-use crate::report::{Place, Remarks, remark_on};
+use crate::options::Options;
+use crate::report::{Location, Remarks, remark_on};
 use crate::seen::Seen;
 use crate::tally::Tally;
 use argon2_io::Failure;
@@ -14,15 +14,15 @@ use memchr::memchr;
 use std::alloc::{AllocError, Global};
 
 /// The most bytes that a line may have, without its line feed.
-pub const LONGEST: usize = 4096;
+pub const MAX_LINE_LEN: usize = 4096;
 
 /// The beginning of a line, up to the most bytes that a line may have. `is_long` says that further bytes were dropped.
 #[derive(Drop)]
 pub struct Line {
     bytes: Vec<u8>,
     is_long: bool,
-    ghost fits: { vec_len bytes ≤ LONGEST },
-    ghost full: { IsTrue is_long → vec_len bytes ≡ LONGEST },
+    ghost fits: { vec_len bytes ≤ MAX_LINE_LEN },
+    ghost full: { IsTrue is_long → vec_len bytes ≡ MAX_LINE_LEN },
 }
 
 impl Line {
@@ -35,7 +35,7 @@ impl Line {
         ensures { OnOk result
             ((line : List ℕ) → IsRead self.old line → IsRead self.new (line ++ bytes.now)) }
     {
-        let kept = bytes.len().min(LONGEST - self.bytes.len());
+        let kept = bytes.len().min(MAX_LINE_LEN - self.bytes.len());
         self.bytes.extend_from_slice(&bytes[..kept])?;
         self.is_long |= kept < bytes.len();
         Ok(())
@@ -92,11 +92,11 @@ impl Session {
         }
     }
 
-    /// Takes more bytes of the file that begins after a place, with remarks on the lines that end in them.
+    /// Reads more bytes of a file, with remarks on the lines that end in them. `file` is the end of the files before.
     pub fn add<S: Remarks>(
         &mut self,
         bytes: &[u8],
-        file: Place<'_>,
+        file: Location<'_>,
         remarks: &mut S,
     ) -> Result<(), Failure>
         requires { self.old.tally.lines + length bytes.now < 2 ^ 64 }
@@ -116,7 +116,7 @@ impl Session {
     }
 
     /// Ends the last line if it has no line feed.
-    pub fn finish<S: Remarks>(&mut self, file: Place<'_>, remarks: &mut S) -> Result<(), Failure>
+    pub fn finish<S: Remarks>(&mut self, file: Location<'_>, remarks: &mut S) -> Result<(), Failure>
         requires { self.old.tally.lines < 2 ^ 64 - 1 }
         ensures { OnOk result ((options : Options) (bytes : List ℕ)
             → IsBefore options self.old bytes [] → IsTallied options bytes self.new.tally) }
@@ -128,7 +128,7 @@ impl Session {
     }
 
     // Ends a line, and counts it unless memory is refused.
-    fn end_line<S: Remarks>(&mut self, file: Place<'_>, remarks: &mut S) -> Result<(), Failure>
+    fn end_line<S: Remarks>(&mut self, file: Location<'_>, remarks: &mut S) -> Result<(), Failure>
         requires { self.old.tally.lines < 2 ^ 64 - 1 }
         ensures lines { OnOk result (self.new.tally.lines ≡ self.old.tally.lines + 1) }
         ensures ended { OnOk result ((options : Options) (lines : List (List ℕ)) (rest : List ℕ)

@@ -9,7 +9,7 @@ use crate::limits::Limits;
 #[derive(Clone, Copy)]
 pub struct Tally {
     pub lines: u64,
-    /// By the classes' numbers.
+    /// The number of lines of each class, by the number of the class.
     pub counts: [u64; 10],
     pub short_salts: u64,
     pub equal_salts: u64,
@@ -24,7 +24,8 @@ impl Tally {
     ghost use Rattle.std.specs.Prelude.{◌≡◌, ◌<◌, ◌^◌, ◌-◌, ◌↔◌, IsTrue};
     ghost use Rattle.argon2_audit.specs.Audit.{Counts, IsClean, count_of};
 
-    /// Counts a line of a class, its salt if it is short or that of an earlier line, and its key identifier if that is another.
+    /// Counts a line of a class, and whether its salt is short, an earlier line has its salt, and its key identifier is not the
+    /// required one.
     pub fn add(&mut self, class: Class, is_short: bool, is_equal: bool, is_other: bool)
         requires { self.old.lines < 2 ^ 64 - 1 }
         ensures { Counts class is_short is_equal is_other self.old self.new }
@@ -43,7 +44,7 @@ impl Tally {
         self.counts[class as usize]
     }
 
-    /// Whether each line counts as sound, and no salt was there before.
+    /// Whether each line counts as sound, and no two salts are equal.
     pub fn is_clean(&self, limits: &Limits) -> bool
         ensures { IsTrue result ↔ IsClean limits.now self.now }
     {

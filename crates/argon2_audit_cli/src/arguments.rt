@@ -1,6 +1,7 @@
 //! The options of the command line, and the names of files.
 
-use argon2::{Algorithm, KeyId};
+use argon2::phc::read_decimal;
+use argon2::{Algorithm, KeyId, Version};
 use argon2_audit::run::PROGRAM;
 use argon2_audit::{Field, Form, Limits, Options};
 use argon2_cli::{Argument, CommandLine, Matches, Refusal, argument};
@@ -10,7 +11,7 @@ use std::io::Write;
 
 const COMMAND_LINE: CommandLine<'static> = CommandLine {
     program: PROGRAM,
-    about: "Says which stored texts of passwords are below a policy",
+    about: "Reports which stored password hashes are below a policy",
     long_about: ABOUT,
     notes: NOTES,
     usage: None,
@@ -22,51 +23,51 @@ const ARGUMENTS: [Argument<'static>; 15] = [
     argument!(--"min-t" <T> "The least number of passes", default: Some("2")),
     argument!(--"min-p" <P> "The least number of lanes", default: Some("1")),
     argument!(--"min-salt" <N> "The fewest bytes of a salt", default: Some("16")),
-    argument!(--"min-hash" <N> "The fewest bytes of a hash", default: Some("32")),
+    argument!(--"min-hash" <N> "The fewest bytes of the hash field", default: Some("32")),
     argument!(--"min-version" <V> "The least version, 16 or 19 [default: any]"),
     argument!(--"require" <ALGORITHM>
         "The one sound algorithm, argon2d, argon2i or argon2id [default: any]"),
     argument!(--"keyid" <ID>
-        "The one sound key identifier, in Base64 as texts have it [default: any]"),
+        "The one sound key identifier, in Base64, as after `keyid=` in a hash [default: any]"),
     argument!(--"allow-other" "Other schemes, locked and blank lines and comments count as sound"),
     argument!(--"field" <N>
-        "The text is field N, and a line without it is not sound [default: the second, or the line]"),
+        "The hash is field N, and a line without it is not sound [default: the second, or the line]"),
     argument!(--"separator" <C> "The one byte between two fields", default: Some(":")),
     argument!(--"json" "Write one JSON object: findings by line, counts, schemes, table",
         excluded: Some("quiet")),
     argument!(--"summary" "Write no remarks, only counts", excluded: Some("quiet")),
     argument!(--"quiet" "Write nothing; the status says all"),
-    argument!(FILE.. 0 "Files with a text a line, `-` for standard input"),
+    argument!(FILE.. 0 "Files with a hash on each line, `-` for standard input"),
 ];
 
 const ABOUT: &str = "\
-Says which stored texts of passwords are below a policy.
+Reports which stored password hashes are below a policy.
 
-It reads the files one after another, or standard input if none is named or one is `-`. Each line has one
-stored text; in a line with colons, such as one of a password file, it is the second field. It writes a remark
-for each thing that keeps a line from being sound, then how many lines there are of each class, and how many
-of each algorithm, version and costs. Lines are named by their numbers, as FILE:LINE if there are several files,
-and nothing of their names, salts and hashes is written.";
+It reads the files one after another, or standard input if none is named or one is `-`. Each line contains one
+stored hash; in a line with colons, such as a line of a password file, the hash is the second field. It writes
+a remark for each thing that keeps a line from being sound, then how many lines are of each class, and how many
+are of each algorithm, version and costs. It names lines by their numbers, as FILE:LINE if there are several
+files, and writes nothing of their names, salts and hashes.";
 
 const NOTES: &str = "\
 Example: argon2-audit --min-m 65536 --allow-other /etc/shadow
 
-A line is sound if its text is in the grammar, names an algorithm and a version of Argon2, has valid
-parameters, a salt and a hash, and has nothing below the policy. A line may have 4096 bytes. A byte order
+A line is sound if its hash is a valid PHC string, names an algorithm and a version of Argon2, has valid
+parameters, a salt and a hash field, and has nothing below the policy. A line may have 4096 bytes. A byte order
 mark at the start of a line and a carriage return at its end are skipped, and so is what Django, Dovecot and
-LDAP servers put before a text: argon2 before a $, {argon2}, {ARGON2}, {ARGON2I}, {ARGON2ID}, {CRYPT},
-{crypt}, {BLF-CRYPT}, {MD5-CRYPT}, {SHA256-CRYPT} and {SHA512-CRYPT}. Texts of other schemes are named by how
-they begin, with the separator behind the name: bcrypt, scrypt, PBKDF2, yescrypt, sha256crypt, sha512crypt,
+LDAP servers put before a hash: argon2 before a $, {argon2}, {ARGON2}, {ARGON2I}, {ARGON2ID}, {CRYPT},
+{crypt}, {BLF-CRYPT}, {MD5-CRYPT}, {SHA256-CRYPT} and {SHA512-CRYPT}. Hashes of other schemes are named by how
+they begin, with the separator after the name: bcrypt, scrypt, PBKDF2, yescrypt, sha256crypt, sha512crypt,
 md5crypt, and digests of Django and LDAP; argon2-audit(1) has the list. A line `scrypt:N:R:P$..` or
-`pbkdf2:sha256:N$..` (also sha1, sha512) is a text of Werkzeug
-without a name. A field that begins with a double quote ends behind the next one, as in CSV: two of them stand
-for one. A text that begins with ! or * is locked. An empty text is never sound: some systems take any password
-for it. All salts are kept, to find equal ones.
+`pbkdf2:sha256:N$..` (also sha1, sha512) is a hash of Werkzeug without a name. A field that begins with a
+double quote ends after the next double quote, as in CSV; two double quotes stand for one. A hash that begins
+with ! or * is locked. An empty hash is never sound, since some systems accept any password for it. All salts
+are kept in memory, to find equal ones.
 
 The status is 0 if each line is sound and no two salts are equal, 1 if that is not so, 2 if the arguments are
 wrong, and 3 if a file, reading, writing or a request for memory fails, which standard error says.";
 
-/// Reads the options, and the names of files, `-` if there are none. If an option is given twice, the last one counts.
+/// Reads the options, and the names of files, `-` if no file is named. If an option is given twice, the last one counts.
 ///
 /// # Errors
 /// The exit status, once a page is written or `errors` says why.
@@ -117,7 +118,7 @@ fn limits(alloc: Global, matches: &Matches<'_>) -> Result<Limits, Refusal> {
         hash_len: number(alloc, matches, "min-hash")?,
         version: version(alloc, matches)?,
         algorithm: algorithm(alloc, matches)?,
-        key_id: key_id(alloc, matches)?,
+        keyid: keyid(alloc, matches)?,
         allows_other: matches.has("allow-other"),
     })
 }
@@ -134,17 +135,18 @@ fn number(alloc: Global, matches: &Matches<'_>, name: &str) -> Result<u32, Refus
     }
 }
 
-// The least version, 0 if there is none.
+// The number of the least version, 0 if none is asked for.
 fn version(alloc: Global, matches: &Matches<'_>) -> Result<u32, Refusal> {
-    match matches.get("min-version") {
-        None => Ok(0),
-        Some("16") => Ok(16),
-        Some("19") => Ok(19),
-        Some(_) => Err(matches.invalid(alloc, "min-version", "it is not 16 or 19")),
+    let Some(text) = matches.get("min-version") else {
+        return Ok(0);
+    };
+    match Version::try_from(read_decimal(text).unwrap_or(0)) {
+        Ok(version) => Ok(u32::from(version)),
+        Err(_) => Err(matches.invalid(alloc, "min-version", "it is not 16 or 19")),
     }
 }
 
-// The one sound algorithm, if there is one.
+// The required algorithm, if one is required.
 fn algorithm(alloc: Global, matches: &Matches<'_>) -> Result<Option<Algorithm>, Refusal> {
     let Some(name) = matches.get("require") else {
         return Ok(None);
@@ -158,18 +160,18 @@ fn algorithm(alloc: Global, matches: &Matches<'_>) -> Result<Option<Algorithm>, 
     }
 }
 
-// The one sound key identifier, if there is one.
-fn key_id(alloc: Global, matches: &Matches<'_>) -> Result<Option<KeyId>, Refusal> {
+// The required key identifier, if one is required.
+fn keyid(alloc: Global, matches: &Matches<'_>) -> Result<Option<KeyId>, Refusal> {
     let Some(text) = matches.get("keyid") else {
         return Ok(None);
     };
     match KeyId::from_b64(text) {
-        Ok(key_id) => Ok(Some(key_id)),
+        Ok(keyid) => Ok(Some(keyid)),
         Err(_) => Err(matches.invalid(alloc, "keyid", "it is not Base64 of at most 8 bytes")),
     }
 }
 
-// How many fields are before the one that is asked for, if one is.
+// How many fields are before the field of `--field`, if that is given.
 fn before(alloc: Global, matches: &Matches<'_>) -> Result<Option<u32>, Refusal> {
     if matches.get("field").is_none() {
         return Ok(None);

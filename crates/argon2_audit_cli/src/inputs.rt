@@ -1,4 +1,4 @@
-//! What is read: files one after another.
+//! The input: files, one after another.
 
 use argon2_audit::run::Named;
 use std::fs::File;
@@ -18,7 +18,7 @@ enum Input {
 pub struct Inputs<'a> {
     rt: &'a HostRuntime,
     names: &'a [&'a str],
-    // How many of them were opened. The last one is read.
+    // The number of files that were opened. The last of them is read.
     opened: usize,
     input: Option<Input>,
     ends_line: bool,
@@ -36,7 +36,7 @@ impl<'a> Inputs<'a> {
         }
     }
 
-    // Opens the next file, if there is one.
+    // Opens the next file, and returns whether it exists in the list.
     fn open_next(&mut self) -> io::Result<bool> {
         let Some(name) = self.names.get(self.opened) else {
             return Ok(false);

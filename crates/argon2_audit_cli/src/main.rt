@@ -28,7 +28,7 @@ fn main(rt: HostRuntime) -> ExitCode {
             {
                 let parts = [
                     PROGRAM.as_bytes(),
-                    b": stored texts, or lines NAME:TEXT, then Ctrl-D",
+                    b": stored hashes, or lines NAME:HASH, then Ctrl-D",
                 ];
                 let _ = write_line(&mut errors, &parts);
             }

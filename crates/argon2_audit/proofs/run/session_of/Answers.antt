@@ -2,14 +2,16 @@ use Rattle.std.proofs.Common.{arith, rules, ◌≡◌, false, true, sym, IsFalse
 use Rattle.std.proofs.KnownBytes.{Consumes-kept, Consumes-trans}
 use Rattle.std.specs.Io.KnownBytes.{Keeps}
 use Rattle.argon2_audit.specs.Audit.{IsBefore}
-use Rattle.argon2_audit.specs.declared.limits.Options.{Options}
+use Rattle.argon2_audit.specs.declared.options.Options.{Options}
 use Rattle.argon2_audit.specs.declared.session.Session.{Session}
 use Rattle.argon2_audit.proofs.run.session_of.Goals.{in-Ok+in_ok-add-in-Ok, in-Err, then-shows_progress+then-turn, else-shows_progress}
 use Rattle.argon2_audit.proofs.run.session_of.Goals as goal
 
-more : {options : Options} {session : Session} {read : List ℕ} (piece : List ℕ) → IsBefore options session read []
+-- a session that has read all bytes so far comes before the next piece
+IsBefore-piece : {options : Options} {session : Session} {read : List ℕ} (piece : List ℕ) → IsBefore options session read []
     → IsBefore options session (read ++ piece) piece
-more piece b = record { lines = b.lines; rest = b.rest; split = rw b.split (simp (append-nil, append_assoc)); at = b.at }
+IsBefore-piece piece b =
+    record { lines = b.lines; rest = b.rest; split = rw b.split (simp (append-nil, append_assoc)); at = b.at }
 
 pub pieces-preserved : goal.pieces-preserved
 pieces-preserved g c =
@@ -29,7 +31,7 @@ pieces-preserved g c =
             search rules,
             (
               read ++ piece,
-              w.in_ok-add-in-Ok.ensures.taken c.args.options (read ++ piece) (more piece taken),
+              w.in_ok-add-in-Ok.ensures.taken c.args.options (read ++ piece) (IsBefore-piece piece taken),
               Consumes-trans _ _ _ _ _ consumed w.in-Ok.ensures.bytes.0,
             ),
             quiet,

@@ -4,15 +4,16 @@ use Rattle.std.proofs.lemmas.List.{length-drop, take_all}
 use Rattle.std.proofs.lemmas.List.Elements.{All-append}
 use Rattle.memchr.specs.Find.{Nowhere, Passes, is_byte}
 use Rattle.argon2_audit.specs.Audit.{HasNoFeed, IsAt, IsRead, text_of_lines}
-use Rattle.argon2_audit.specs.declared.limits.Options.{Options}
+use Rattle.argon2_audit.specs.declared.options.Options.{Options}
 use Rattle.argon2_audit.specs.declared.session.Line.{Line}
 use Rattle.argon2_audit.specs.declared.session.Session.{Session}
 use Rattle.argon2_audit.proofs.session.Session.add.Goals as goal
 
-part_more : {options : Options} {old : Session} {line : Line} {lines : List (List ℕ)} {rest : List ℕ}
+-- a session that reads a part of a line without a line feed is at the longer line
+IsAt-part : {options : Options} {old : Session} {line : Line} {lines : List (List ℕ)} {rest : List ℕ}
     (part : List ℕ) → ((l : List ℕ) → IsRead old.line l → IsRead line (l ++ part)) → HasNoFeed part
     → IsAt options old lines rest → IsAt options (record old { line = line }) lines (rest ++ part)
-part_more {rest = rest} part reads feed at = record {
+IsAt-part {rest = rest} part reads feed at = record {
   same = at.same;
   findings = at.findings;
   counted = at.counted;
@@ -21,14 +22,14 @@ part_more {rest = rest} part reads feed at = record {
   read = reads rest at.read;
 }
 
--- no line feed comes before the first
-none_before : (bytes : List ℕ) (end : ℕ) → Nowhere (Passes (is_byte 10) bytes) 0 end → HasNoFeed (take end bytes)
-none_before bytes end never = λ k d below. grind (arith, common_steps, never k)
+-- the bytes before the first line feed have no line feed
+HasNoFeed-take : (bytes : List ℕ) (end : ℕ) → Nowhere (Passes (is_byte 10) bytes) 0 end → HasNoFeed (take end bytes)
+HasNoFeed-take bytes end never = λ k d below. grind (arith, common_steps, never k)
 
--- the bytes before the first line feed, and after it
-at_feed : (bytes : List ℕ) (end : ℕ) → end < length bytes → Passes (is_byte 10) bytes end
+-- bytes with a line feed at an index are the bytes before it, the line feed, and the bytes after it
+split-at_feed : (bytes : List ℕ) (end : ℕ) → end < length bytes → Passes (is_byte 10) bytes end
     → bytes ≡ take end bytes ++ 10 ∷ drop (end + 1) bytes
-at_feed bytes end below is = grind (arith, common_steps)
+split-at_feed bytes end below is = grind (arith, common_steps)
 
 pub returns-clause-taken : goal.returns-clause-taken
 returns-clause-taken g c = λ options all before.
@@ -38,7 +39,7 @@ returns-clause-taken g c = λ options all before.
       lines = b.lines;
       rest = b.rest ++ rest;
       split = b.split ∙ rw append-nil refl;
-      at = part_more rest c.in_ok-extend-2.ensures (rw whole at (none_before rest (length rest) c.in_default.ensures)) b.at;
+      at = IsAt-part rest c.in_ok-extend-2.ensures (rw whole at (HasNoFeed-take rest (length rest) c.in_default.ensures)) b.at;
     }
 
 pub lines-preserved : goal.lines-preserved
@@ -47,9 +48,9 @@ lines-preserved g c =
     let end = c.in-Some.end in
     let part = take end rest in
     let first = c.in-Some.ensures in
-    let behind = drop (end + 1) rest in
-    let whole = take_all (length rest - (end + 1)) behind (omega (arith, length-drop (end + 1) rest)) in
-    let cut = at_feed rest end first.0.high first.1 in (
+    let after = drop (end + 1) rest in
+    let whole = take_all (length rest - (end + 1)) after (omega (arith, length-drop (end + 1) rest)) in
+    let cut = split-at_feed rest end first.0.high first.1 in (
       omega (arith, length-drop (end + 1) rest, ap length whole, c.in_ok-end_line.ensures.lines, c.lines.invariant.0),
       λ options all before.
           let b = c.lines.invariant.1 options all before in record {
@@ -57,6 +58,6 @@ lines-preserved g c =
             rest = [];
             split = b.split ∙ ap (λ l. text_of_lines b.lines ++ (b.rest ++ l)) cut ∙ rw whole (sym (simp append_assoc));
             at = c.in_ok-end_line.ensures.ended options b.lines (b.rest ++ part)
-                (part_more part c.in_ok-extend.ensures (none_before rest end first.0.before) b.at);
+                (IsAt-part part c.in_ok-extend.ensures (HasNoFeed-take rest end first.0.before) b.at);
           },
     )

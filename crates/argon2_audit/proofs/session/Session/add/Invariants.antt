@@ -1,6 +1,6 @@
 use Rattle.std.proofs.Common.{◌≤◌, ◌+◌, List, ℕ, length}
 use Rattle.argon2_audit.specs.Audit.{IsBefore}
-use Rattle.argon2_audit.specs.declared.limits.Options.{Options}
+use Rattle.argon2_audit.specs.declared.options.Options.{Options}
 use Rattle.argon2_audit.proofs.session.Session.add.Given as goal
 
 abbrev pub invariant-lines : goal.invariant-lines

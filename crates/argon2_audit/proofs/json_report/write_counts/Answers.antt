@@ -1,5 +1,5 @@
 use Rattle.std.proofs.lemmas.Result.{on_ok_weaker}
-use Rattle.argon2_audit.proofs.findings.write_counts.Goals as goal
+use Rattle.argon2_audit.proofs.json_report.write_counts.Goals as goal
 
 pub returns : goal.returns
 returns c = on_ok_weaker c.write_object.result (λ all. rw (

@@ -2,21 +2,21 @@ use Rattle.std.proofs.Common.{arith, ◌∙◌, [], ◌∷◌, append_assoc}
 use Rattle.json.specs.Json.{no_items}
 use Rattle.json.specs.Token.{begin_array}
 use Rattle.json.specs.Tree.{items_tokens}
-use Rattle.argon2_audit.proofs.Objects.{at_last, item_more, no_item}
-use Rattle.argon2_audit.proofs.findings.write_kinds.Goals as goal
+use Rattle.argon2_audit.proofs.Objects.{OnOk-token, HasItems-item, HasItems-none}
+use Rattle.argon2_audit.proofs.json_report.write_kinds.Goals as goal
 
 pub loop-kind-init : goal.loop-kind-init
-loop-kind-init c = (c.begin_array.ensures.room.0, no_item c.in_ok-begin_array.ensures.ok)
+loop-kind-init c = (c.begin_array.ensures.room.0, HasItems-none c.in_ok-begin_array.ensures.ok)
 
 pub loop-kind-preserved : goal.loop-kind-preserved
 loop-kind-preserved c =
     let added = c.in_ok-write_object.ensures in
-    (added.adds.before ∙ c.loop-kind.invariant.0, item_more added c.loop-kind.invariant.1)
+    (added.adds.before ∙ c.loop-kind.invariant.0, HasItems-item added c.loop-kind.invariant.1)
 
 pub returns : goal.returns
 returns c =
     let has = c.loop-kind.invariant.1 in
-    at_last c.end_array.ensures (λ last. (
+    OnOk-token c.end_array.ensures (λ last. (
       has.all no_items,
       record {
         adds = record {

@@ -6,8 +6,8 @@ ghost use Rattle.json.specs.Tree.{members_tokens};
 ghost use Rattle.argon2_audit.specs.Object.{Adds, AddsValue, HasFindings, IsFlat, counts_of, members_now, json_value};
 
 use crate::finding::Class;
-use crate::limits::Kind;
-use crate::report::{Place, Remark, Remarks};
+use crate::kind::Kind;
+use crate::report::{Location, Remark, Remarks};
 use crate::session::Session;
 use crate::tally::Tally;
 use argon2_io::Failure;
@@ -22,9 +22,9 @@ pub enum Value<'a> {
     Text(&'a str),
 }
 
-/// A JSON object with the findings so far. It is kept until it is whole.
+/// The beginning of a JSON object, with the findings so far. It is kept in memory until the object is whole.
 #[derive(Drop)]
-pub struct Findings {
+pub struct JsonReport {
     alloc: Global,
     json: Writer,
     // Whether no write failed.
@@ -32,19 +32,19 @@ pub struct Findings {
     ghost whole: { IsTrue is_whole → ∥ HasFindings json ∥₁ },
 }
 
-impl Findings {
+impl JsonReport {
     ghost use Rattle.argon2_audit.specs.Object.{IsObject};
 
-    /// No findings.
+    /// A report with no findings.
     ///
     /// # Errors
     /// Out of memory.
-    pub fn new(alloc: Global) -> Result<Findings, AllocError> {
+    pub fn new(alloc: Global) -> Result<JsonReport, AllocError> {
         let mut json = Writer::new(Vec::new(alloc));
         json.begin_object()?;
         json.key("findings")?;
         json.begin_array()?;
-        Ok(Findings {
+        Ok(JsonReport {
             alloc,
             json,
             is_whole: true,
@@ -54,7 +54,7 @@ impl Findings {
     /// The whole object.
     ///
     /// # Errors
-    /// Out of memory, also before.
+    /// Out of memory, in this call or in an earlier one.
     pub fn object(self, session: &Session) -> Result<Vec<u8>, AllocError>
         ensures { IfOk result (λ text. IsObject session.now.tally text.items) }
     {
@@ -78,13 +78,13 @@ impl Findings {
     }
 }
 
-impl Remarks for Findings {
+impl Remarks for JsonReport {
     // If a write fails, the object is never whole.
-    fn add(&mut self, place: Place<'_>, remark: Remark<'_>) -> Result<(), Failure> {
+    fn add(&mut self, location: Location<'_>, remark: Remark<'_>) -> Result<(), Failure> {
         let text = format!(in self.alloc; "{remark}")?;
         let was_whole = self.is_whole;
         self.is_whole = false;
-        write_finding(&mut self.json, place, remark.code(), text.as_str())?;
+        write_finding(&mut self.json, location, remark.code(), text.as_str())?;
         self.is_whole = was_whole;
         Ok(())
     }
@@ -93,15 +93,15 @@ impl Remarks for Findings {
 // Writes a finding.
 fn write_finding<'a>(
     json: &mut Writer,
-    place: Place<'a>,
+    location: Location<'a>,
     code: &'a str,
     remark: &'a str,
 ) -> Result<(), AllocError>
     ensures { OnOk result ((finding : Json) × AddsValue json.old json.new 1 finding) }
 {
-    let line = ("line", Value::Number(place.line));
+    let line = ("line", Value::Number(location.line));
     let (code, remark) = (("code", Value::Text(code)), ("remark", Value::Text(remark)));
-    match place.file {
+    match location.file {
         Some(file) => write_object(json, &[("file", Value::Text(file)), line, code, remark]),
         None => write_object(json, &[line, code, remark]),
     }
