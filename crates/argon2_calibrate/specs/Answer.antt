@@ -9,25 +9,25 @@ use Rattle.argon2_calibrate.specs.declared.choice.Found.{Found}
 use Rattle.argon2_calibrate.specs.declared.options.Options.{Options}
 use Rattle.argon2_calibrate.specs.declared.stopwatch.Times.{Times}
 
--- costs as a list of parameters, a line
+-- the line with costs as a list of parameters
 abbrev pub list_text : ℕ → ℕ → ℕ → List ℕ
 list_text m t p = codes "m=" ++ (decimal m ++ (codes ",t=" ++ (decimal t ++ (codes ",p=" ++ (decimal p ++ 10 ∷ [])))))
 
--- costs as a call, a line
+-- the line with costs as a call of `Params::new`
 abbrev pub call_text : ℕ → ℕ → ℕ → List ℕ
 call_text m t p = codes "Params::new(" ++ (decimal m ++ (codes ", " ++ (decimal t ++ (codes ", " ++ (decimal p
     ++ (codes ", None)" ++ 10 ∷ []))))))
 
--- a number after as many zeros as make it six digits
+-- a number below 1000000 in six digits
 abbrev pub six_places : ℕ → List ℕ
 six_places n = replicate (6 - length (decimal n)) 48 ++ decimal n
 
--- microseconds as seconds with six digits after a point, a line
+-- the line with microseconds as seconds, with six digits after a point
 abbrev pub time_text : ℕ → List ℕ
 time_text time = decimal (time / 1000000) ++ (codes "." ++ (six_places (time % 1000000)
     ++ (codes " seconds" ++ 10 ∷ [])))
 
--- a line if the machine was busy
+-- the line that says that the machine was busy, or nothing
 abbrev pub busy_text : Bool → List ℕ
 busy_text true = codes "the machine was busy: times may be too long" ++ 10 ∷ []
 busy_text false = []
@@ -44,7 +44,7 @@ json_of found p = object (member (codes "m") (number (decimal found.choice.m_cos
     (member (codes "microseconds") (number (decimal found.choice.time))
     (member (codes "busy") (boolean found.busy) no_members)))))
 
--- costs that are chosen by measured times, and how long they take: a line with a JSON object, or lines
+-- costs that are chosen by measured times, and their time, are printed: a line with a JSON object, or lines
 abbrev pub PrintsCosts : (ℕ → ℕ → ℕ → Option Times → Type 0) → Options → Option (List ℕ) → Option (List ℕ) → Type 0
 PrintsCosts Takes options old new = (found : Found) × IsChoice (Takes options.lanes) options found
     × MatchBool options.json

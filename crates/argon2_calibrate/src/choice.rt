@@ -3,7 +3,7 @@
 ghost use Rattle.std.specs.Prelude.{◌≡◌, ◌≤◌, ◌<◌, IfSome};
 ghost use Rattle.argon2_calibrate.specs.Choice.{IsGreatest, pass_time_of, is_shared, least_passes, are_scattered};
 
-/// Memory and passes, and how long three hashes under them take.
+/// Memory and passes, and the times of three hashes under them.
 #[derive(Clone, Copy, Debug, PartialEq, Eq)]
 pub struct Choice {
     /// Memory in blocks of 1024 bytes.
@@ -16,12 +16,12 @@ pub struct Choice {
     pub busy: bool,
 }
 
-/// Costs that were searched for.
+/// The costs that a search found.
 #[derive(Clone, Copy, Debug, PartialEq, Eq)]
 pub struct Found {
     /// The costs.
     pub choice: Choice,
-    /// Whether the machine may have been too busy to find better ones.
+    /// Whether the machine may have been too busy for the search to find better costs.
     pub busy: bool,
 }
 
@@ -40,7 +40,7 @@ pub fn is_shared(worked: u64, time: u64) -> bool
     worked < time - time / 4
 }
 
-/// The least number of passes over so much memory: what is asked for, or else 2 below 64 MiB and 1 from there on.
+/// The least number of passes over `m_cost` blocks: what is asked for, or else 2 below 64 MiB and 1 from 64 MiB on.
 pub fn least_passes(min_t: Option<u32>, m_cost: u32) -> u32
     requires { IfSome min_t (λ least. 1 ≤ least) }
     ensures value { result ≡ least_passes min_t m_cost }
@@ -53,8 +53,8 @@ pub fn least_passes(min_t: Option<u32>, m_cost: u32) -> u32
     }
 }
 
-/// An estimate of one more pass from the measured times of the least passes and of `passes`. It is at least half of the
-/// average, since the first hash can be slow.
+/// An estimate of the time of one more pass, from the measured times of the least passes and of `passes`. The estimate is at
+/// least half of the average time of a pass, because the first hash can be slow.
 pub fn pass_time(first: Choice, passes: u32, time: u64) -> u64
     requires { first.t_cost < passes }
     ensures { result ≡ pass_time_of first passes time }
@@ -64,7 +64,7 @@ pub fn pass_time(first: Choice, passes: u32, time: u64) -> u64
     apart.max(time / (2 * u64::from(passes))).max(1)
 }
 
-/// The greatest number of passes that takes no longer than the target, or the least if none does.
+/// The greatest number of passes that takes no longer than the target, or the least number if no number does.
 pub fn passes(target: u64, first: Choice, pass_time: u64) -> u32
     requires { 0 < pass_time }
     ensures { IsGreatest target first pass_time result }

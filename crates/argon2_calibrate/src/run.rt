@@ -18,8 +18,8 @@ use std::io::Write;
 /// The program's name.
 pub const PROGRAM: &str = "argon2-calibrate";
 
-/// Writes the costs that options ask for to `output`, and returns the exit status: 0, or 3 if that fails, for the reason
-/// that is written to `errors`. If `errors` can't be written, the status stays.
+/// Searches for the costs that options ask for, writes them to `output`, and returns the exit status: 0, or 3 if the search
+/// or the write fails, with the reason on `errors`. If `errors` can't be written, the status stays.
 pub fn run<S: Stopwatch, W: Write, E: Write>(
     alloc: Global,
     options: Options,
@@ -38,7 +38,7 @@ pub fn run<S: Stopwatch, W: Write, E: Write>(
     }
 }
 
-// Writes the costs that options ask for.
+// Searches for the costs that options ask for, and writes them.
 fn calibrate<S: Stopwatch, W: Write, E: Write>(
     alloc: Global,
     options: Options,
@@ -58,7 +58,7 @@ fn calibrate<S: Stopwatch, W: Write, E: Write>(
     }
 }
 
-// Writes costs and their time as a JSON object, a line.
+// Writes a line with the JSON object of costs and their time.
 fn write_json<W: Write>(alloc: Global, output: &mut W, found: Found, p: u32) -> Result<(), Failure>
     ensures { OnOk result ((text : List ℕ) × (document text ≡ Some (json_of found p))
         × Appends (W.contents output.old) (W.contents output.new) (text ++ 10 ∷ [])) }
@@ -97,7 +97,7 @@ fn write_lines<W: Write>(output: &mut W, found: Found, p: u32) -> Result<(), Fai
     Ok(())
 }
 
-// A line if the machine was busy.
+// The line that says that the machine was busy, or nothing.
 fn busy_line(busy: bool) -> &'static str
     ensures { result.now ≡ busy_text busy }
 {

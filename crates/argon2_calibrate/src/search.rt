@@ -11,17 +11,18 @@ use argon2_io::Failure;
 use std::alloc::AllocError;
 use std::io::Write;
 
-// How many numbers of passes are tried, besides the least.
+// The most numbers of passes that are tried besides the least number.
 const TRIALS: u32 = 4;
 
-// How often costs are measured at the most.
+// The most measurements of the same costs.
 const MEASUREMENTS: u32 = 5;
 
-/// The most memory up to a limit with which the least passes take no longer than the target, by halves, and then
-/// the most passes: as RFC 9106, section 4, goes about it. Each measured time is written to `errors`.
+/// Searches as section 4 of RFC 9106 does. First it halves the memory from the most memory on, until the least passes take
+/// no longer than the target. Then it looks for the most passes. Each measured time is written to `errors`.
 ///
 /// # Errors
-/// Those of the stopwatch, and out of memory: for the least memory, or for more passes over memory that was there.
+/// The errors of the stopwatch, and out of memory: for the least memory, or for more passes over memory that an earlier trial
+/// had.
 pub fn search<S: Stopwatch, E: Write>(
     stopwatch: &mut S,
     errors: &mut E,
@@ -34,7 +35,7 @@ pub fn search<S: Stopwatch, E: Write>(
     most_passes(stopwatch, errors, options, first)
 }
 
-// The least passes over the most memory, by halves, with which they take no longer than the target.
+// Halves the memory from the most memory on, until the least passes take no longer than the target or the memory is the least.
 fn most_memory<S: Stopwatch, E: Write>(
     stopwatch: &mut S,
     errors: &mut E,
@@ -68,8 +69,8 @@ fn most_memory<S: Stopwatch, E: Write>(
     }
 }
 
-// The most passes over the same memory that take no longer than the target. The last measured time says how many
-// passes are tried next, and always fewer than any that took longer.
+// The most passes over the same memory that take no longer than the target. The last measured time determines the number of
+// passes that is tried next. That number is less than each number that took longer than the target.
 fn most_passes<S: Stopwatch, E: Write>(
     stopwatch: &mut S,
     errors: &mut E,
@@ -107,7 +108,7 @@ fn most_passes<S: Stopwatch, E: Write>(
     })
 }
 
-// Costs with how long a hash takes, which is written to `errors`, or none if the memory is refused.
+// Measures costs, and writes the time of a hash to `errors`. The answer is none if the memory is refused.
 fn measure<S: Stopwatch, E: Write>(
     stopwatch: &mut S,
     errors: &mut E,
@@ -139,7 +140,7 @@ fn measure<S: Stopwatch, E: Write>(
     Ok(Some(choice))
 }
 
-// The times of three hashes, measured again while they scatter.
+// The times of three hashes. They are measured again while they scatter.
 fn times<S: Stopwatch, E: Write>(
     stopwatch: &mut S,
     errors: &mut E,

@@ -1,4 +1,4 @@
-//! How long hashing takes.
+//! Measuring the time of hashes.
 
 ghost use Rattle.std.specs.Prelude.{None};
 ghost use Rattle.argon2.specs.Argon2.{IsContextOf};
@@ -19,13 +19,13 @@ const REFUSED: Failure = Failure::Other("hashing is refused");
 /// The times of three hashes, in microseconds.
 #[derive(Clone, Copy, Debug, PartialEq, Eq)]
 pub struct Times {
-    /// How long each one took.
+    /// The time of each hash.
     pub taken: [u64; 3],
-    /// The most that the processor worked for one of them.
+    /// The greatest time that the processor worked for one of the hashes.
     pub worked: u64,
 }
 
-/// What measures hashes by Argon2id.
+/// Measures hashes by Argon2id.
 pub trait Stopwatch {
     ghost use Rattle.std.specs.Prelude.{ℕ, ⊤, Option, IfOk, option_map};
     ghost use Rattle.argon2_calibrate.specs.declared.stopwatch.Times.{Times};
@@ -59,7 +59,8 @@ impl<'a, C: Clock + CpuClock> Machine<'a, C> {
         }
     }
 
-    // How many microseconds one hash takes, and for how many the processor works, or none if its memory is refused.
+    // The microseconds that one hash takes, and the microseconds that the processor works for it; none if its memory is
+    // refused.
     fn time(&self, argon2: &Argon2<'_>) -> Result<Option<(u64, u64)>, Failure> {
         let mut tag = [0; Params::DEFAULT_OUTPUT_LEN];
         let worked = self.clock.process_cpu_time().or(Err(NO_CLOCK))?;
@@ -80,7 +81,7 @@ fn micros(time: Duration) -> u64 {
     u64::try_from(time.as_micros()).unwrap_or(u64::MAX)
 }
 
-// What is timed: Argon2id with these lanes, blocks and passes.
+// Argon2id with these lanes, blocks and passes, which is timed.
 fn argon2id(lanes: u32, m_cost: u32, t_cost: u32) -> argon2::Result<Argon2<'static>>
     ensures { IsContextOf Argon2id V0x13 (cost_parameters m_cost t_cost lanes None) result }
 {

@@ -74,7 +74,7 @@ pub record IsSpelled (words : List (List ℕ)) (r : Option Command) : Type 0 whe
 
 -- ---- replies
 
--- an algorithm, a version and costs as settings with no data, or why they are refused
+-- an algorithm, a version and costs as settings with no associated data, or why they are refused
 abbrev pub settings_under : Option Algorithm → Option Version → Request → Result SettingsValue Error
 settings_under None version r = Err AlgorithmInvalid
 settings_under (Some algorithm) None r = Err VersionInvalid
@@ -85,12 +85,12 @@ settings_under (Some algorithm) (Some version) r = answer_unless (first_fault r.
 abbrev pub request_settings : Request → Result SettingsValue Error
 request_settings r = settings_under (algorithm_named r.algorithm.now) (version_numbered r.version) r
 
--- the settings are those that are asked for, with no secret, or the refusal is theirs
+-- the `Argon2` has the settings that the request asks for and no secret, or the error is the refusal of the settings
 abbrev pub IsAsked : Request → Result Argon2 Error → Type 0
 IsAsked r (Ok argon2) = (request_settings r ≡ Ok (settings_of argon2)) × (secret_of argon2 ≡ [])
 IsAsked r (Err refusal) = request_settings r ≡ Err refusal
 
--- the variable-length hash of len bytes, in hex; none of no bytes
+-- the variable-length hash of len bytes, in hex; a length of 0 is refused
 abbrev pub long_reply : ℕ → List ℕ → Result (List ℕ) Error
 long_reply len message = if len == 0 then Err OutputTooShort else Ok (encode_lower (long_hash len message))
 
@@ -125,7 +125,7 @@ IsPhcFault (Err refusal) salt password fault = ⊥
 IsPhcFault (Ok settings) salt password fault =
     hash_outcome (record { settings = settings; secret = [] }) password salt ≡ Err fault
 
--- the fault of a text that does not accept the password: that of its value, or one of the grammar
+-- The fault of a text that does not accept the password. It is the fault of its value, or of the grammar.
 abbrev pub IsVerifyFault : List ℕ → List ℕ → Fault → Type 0
 IsVerifyFault password text fault = ((v : Phc) × IsPhcText text v × (verify_outcome [] password v ≡ Err fault))
     ⊎ (((v : Phc) → IsPhcText text v → ⊥) × (fault ≡ bad_encoding))
@@ -143,7 +143,7 @@ Fails Help input failure = IsOfMemory failure
 Fails VersionCommand input failure = IsOfMemory failure
 Fails command input failure = IsOfInput failure
 
--- what a command comes to on an input
+-- the reply of a command to an input, or why it has no reply
 abbrev pub IsReply : {Z : Type 0} → Command → List ℕ → Result (String Z) Failure → Type 0
 IsReply command message r =
     MatchResult r (λ text. Replies command message (string_bytes text)) (Fails command message)

@@ -17,13 +17,13 @@ abbrev pub IsIoAnd : (IoFailure → Type 0) → Failure → Type 0
 IsIoAnd P (Io failure) = P failure
 IsIoAnd P _ = ⊥
 
--- the failure by a call that refuses: out of memory is reported as that
+-- the failure of a hashing call that refuses: `OutOfMemory` becomes a failure of memory
 abbrev pub IsHashingFailure : Error → Failure → Type 0
 IsHashingFailure refusal (Io failure) = IsMemory failure × (refusal ≡ OutOfMemory)
 IsHashingFailure refusal (Hashing error) = (error ≡ refusal) × (refusal ≢ OutOfMemory)
 IsHashingFailure refusal _ = ⊥
 
--- the failure by a call on a text that refuses: out of memory is reported as that
+-- the failure of a call on a text that refuses: `OutOfMemory` becomes a failure of memory
 abbrev pub IsTextFailure : TextError → Failure → Type 0
 IsTextFailure refusal (Io failure) = IsMemory failure × (refusal ≡ TextOutOfMemory)
 IsTextFailure refusal (Text error) = (error ≡ refusal) × (refusal ≢ TextOutOfMemory)

@@ -1,4 +1,4 @@
-//! The commands, as the program's arguments spell them.
+//! The commands that the arguments of the program spell.
 
 ghost use Rattle.std.specs.Prelude.{◌≡◌, ℕ, ◌≤◌, IfSome, IsSome};
 ghost use Rattle.std.specs.Fmt.{decimal};
@@ -6,7 +6,7 @@ ghost use Rattle.std.specs.Fmt.{decimal};
 use argon2::phc::read_decimal;
 use argon2::{Algorithm, Argon2, Params, Version};
 
-/// An algorithm by its name, a version by its number, and costs. None of them is checked yet.
+/// The name of an algorithm, the number of a version, and costs. None of them is checked yet.
 #[derive(Clone, Copy)]
 pub struct Request<'a> {
     pub algorithm: &'a str,
@@ -40,7 +40,7 @@ impl<'a> Request<'a> {
         Some((request, rest))
     }
 
-    /// What hashes under the request, with no secret, no data and any length of output.
+    /// Hashing under the request, with no secret, no associated data and any length of output.
     ///
     /// # Errors
     /// The error of the first that is refused: the algorithm, the version or the costs.
@@ -94,7 +94,7 @@ impl<'a> Command<'a> {
         }
     }
 
-    // The command `tag` with these values, if they are its own.
+    // The command `tag` with these values, if they spell it.
     fn tag(values: &'a [String]) -> Option<Command<'a>>
         ensures { IsSpelled (codes "tag" ∷ map string_bytes values.now) result }
     {
@@ -105,7 +105,7 @@ impl<'a> Command<'a> {
         Some(Command::Tag(request, len, salt.as_str()))
     }
 
-    // The command `phc` with these values, if they are its own.
+    // The command `phc` with these values, if they spell it.
     fn phc(values: &'a [String]) -> Option<Command<'a>>
         ensures { IsSpelled (codes "phc" ∷ map string_bytes values.now) result }
     {

@@ -1,7 +1,7 @@
 //! What the program says on a terminal before it reads.
 //!
-//! A question ends without a line feed, and all else that is written to standard error ends with one. What hides the typing
-//! relies on that.
+//! A question ends without a line feed, and everything else on standard error ends with a line feed. The code that hides the
+//! typing relies on that.
 
 ghost use Rattle.std.specs.Prelude.{◌≡◌, ◌++◌, ◌∷◌, [], IfErr, IfOk, IfSome, OnOk};
 ghost use Rattle.std.specs.Io.KnownBytes.{Appends};

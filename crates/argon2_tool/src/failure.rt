@@ -22,7 +22,7 @@ pub enum Failure {
 }
 
 impl Failure {
-    /// What is printed, in three parts, as [`password_hash::Error::text`] has them.
+    /// The text that is printed, in three parts as [`password_hash::Error::text`] returns them.
     pub fn text(&self) -> (&'static str, &'static str, &'static str)
         ensures { result.0.now ++ result.1.now ++ result.2.now ≡ failure_text self.now }
     {
@@ -54,7 +54,7 @@ impl From<AllocError> for Failure {
     }
 }
 
-/// The failure of a read; out of memory is reported as that.
+/// The failure of a read. Out of memory becomes `Memory`.
 impl From<std::io::Error> for Failure {
     ghost from_gives = { λ error failure. IsIoAnd (IsOfReading error) failure };
 
@@ -63,7 +63,7 @@ impl From<std::io::Error> for Failure {
     }
 }
 
-/// Out of memory is reported as that, wherever it was found.
+/// Out of memory becomes `Memory`, whichever call reports it.
 impl From<argon2::Error> for Failure {
     ghost from_gives = { IsHashingFailure };
 
@@ -75,7 +75,7 @@ impl From<argon2::Error> for Failure {
     }
 }
 
-/// Out of memory is reported as that, wherever it was found.
+/// Out of memory becomes `Memory`, whichever call reports it.
 impl From<password_hash::Error> for Failure {
     ghost from_gives = { IsTextFailure };
 

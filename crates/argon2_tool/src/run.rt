@@ -54,11 +54,11 @@ const VERSION: &str = "argon2-tool 0.6.0+2";
 
 /// Runs the command that `args` spell on `input`, and returns the exit status.
 ///
-/// Status 0: the command's line is written to `output`, and nothing to `errors`. Status 1: the line of
-/// why it failed is written to `errors`. If that is not a write of `output`, nothing is written there.
-/// Status 2: the arguments spell no command, `errors` has the usage line, and neither `input` nor
-/// `output` is touched. The help and the version leave `input` too. If `errors` can't be written, the
-/// status stays.
+/// Status 0: the command's line is written to `output`, and nothing to `errors`. Status 1: the command
+/// fails, and the reason is written to `errors` as a line. Nothing is written to `output`, unless a write
+/// of `output` fails. Status 2: the arguments spell no command, `errors` has the usage line, and neither
+/// `input` nor `output` is touched. The help and the version do not touch `input` either. If `errors`
+/// can't be written, the status stays.
 pub fn run<R: Read, W: Write, E: Write>(
     alloc: Global,
     args: &[String],
@@ -131,7 +131,7 @@ fn answer<R: Read, W: Write>(
     }
 }
 
-// What a command replies to the input.
+// The reply of a command to the input.
 fn reply<R: Read>(alloc: Global, command: &Command<'_>, input: &mut R) -> Result<String, Failure>
     requires { IsCommand command.now }
     ensures reply { IfSome (R.remaining input.old) (λ message.
@@ -162,8 +162,8 @@ pub(crate) fn read_all<R: Read>(alloc: Global, input: &mut R) -> Result<Vec<u8>,
     Ok(bytes)
 }
 
-// The BLAKE2b digest of the input, of `len` bytes, in hex. The input is taken piece by piece, so
-// that it needs no memory.
+// The BLAKE2b digest of the input, of `len` bytes, in hex. The input is read in pieces, so that it
+// needs no memory.
 fn digest<R: Read>(alloc: Global, len: usize, input: &mut R) -> Result<String, Failure>
     requires low { 1 ≤ len }
     requires high { len ≤ 64 }

@@ -1,6 +1,6 @@
 use Rattle.std.proofs.Common.{true, false}
 use Rattle.std.proofs.lemmas.Bool.{le-leb, lt-leb, or_parts}
-use Rattle.argon2_calibrate.proofs.Trials.{tried_more}
+use Rattle.argon2_calibrate.proofs.Trials.{IsTried-trial}
 use Rattle.argon2_calibrate.proofs.search.most_passes.Goals as goal
 use Rattle.argon2_calibrate.proofs.search.most_passes.Goals.{then-trial-options, else-trial-options}
 
@@ -12,11 +12,11 @@ trials-preserved g c =
     let rises = c.if-next-best.false in
     elim c.if-trial-options.branch [
       | then-trial-options w ↦ rw (w.best-is, c.min-next.ensures, w.most-is) (
-        tried_more _ _ true (le-leb _ _ w.if-trial-options.true) so rises passes memory took greatest,
+        IsTried-trial _ _ true (le-leb _ _ w.if-trial-options.true) so rises passes memory took greatest,
         λ quiet. (or_parts c.trials.busy c.in-Some.trial.busy quiet).1,
       )
       | else-trial-options w ↦ rw (w.best-is, c.min-next.ensures, w.most-is) (
-        tried_more _ _ false (lt-leb _ _ w.if-trial-options.false) so rises passes memory took greatest,
+        IsTried-trial _ _ false (lt-leb _ _ w.if-trial-options.false) so rises passes memory took greatest,
         λ quiet. steady (or_parts c.trials.busy c.in-Some.trial.busy quiet).0,
       )
     ]

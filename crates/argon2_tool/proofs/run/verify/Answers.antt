@@ -13,23 +13,24 @@ use Rattle.argon2_tool.specs.declared.failure.Failure.TheVariants.{Io, Hashing, 
 use Rattle.argon2_tool.proofs.run.verify.Goals as goal
 
 -- a refusal that is not out of memory is the text's
-refused : (password text : List ℕ) (e own : Error) → IsVerifyTextAnswer [] password text (Err e)
+IsVerifyFault-refused : (password text : List ℕ) (e own : Error) → IsVerifyTextAnswer [] password text (Err e)
     → IsTextFailure e (Text own) → IsVerifyFault password text (fault_of own)
-refused password text e own (inl (v, is, inl same)) of = rw of.0 (inl (v, is, sym same))
-refused password text e own (inl (v, is, inr (none, known))) of = absurd (of.1 (grind arith))
-refused password text e own (inr (none, same)) of = rw of.0 (inr (none, grind arith))
+IsVerifyFault-refused password text e own (inl (v, is, inl same)) of = rw of.0 (inl (v, is, sym same))
+IsVerifyFault-refused password text e own (inl (v, is, inr (none, known))) of = absurd (of.1 (grind arith))
+IsVerifyFault-refused password text e own (inr (none, same)) of = rw of.0 (inr (none, grind arith))
 
-fails : (text : Bor (List ℕ)) (password : List ℕ) (e : Error) (failure : Failure)
+-- an error of `verify_password` is why the command has no reply
+Fails-verify : (text : Bor (List ℕ)) (password : List ℕ) (e : Error) (failure : Failure)
     → IsVerifyTextAnswer [] password text.now (Err e) → IsTextFailure e failure → Fails (Verify text) password failure
-fails text password e (Io (Memory none)) answer of = tt
-fails text password e (Text own) answer of = refused password text.now e own answer of
-fails text password e (Hashing own) answer of = absurd of
-fails text password e (Io (Input error)) answer of = absurd of.0
-fails text password e (Io (Output error)) answer of = absurd of.0
-fails text password e (Io (Other what)) answer of = absurd of.0
+Fails-verify text password e (Io (Memory none)) answer of = tt
+Fails-verify text password e (Text own) answer of = IsVerifyFault-refused password text.now e own answer of
+Fails-verify text password e (Hashing own) answer of = absurd of
+Fails-verify text password e (Io (Input error)) answer of = absurd of.0
+Fails-verify text password e (Io (Output error)) answer of = absurd of.0
+Fails-verify text password e (Io (Other what)) answer of = absurd of.0
 
 pub returns-in_err-verify_password : goal.returns-in_err-verify_password
 returns-in_err-verify_password c =
     let why = rw c.default.ensures at c.in_err-verify_password.ensures.answer in
     let failed = err_from_is_err_and c.from_residual.result c.from_residual.ensures.1 in
-    rw failed.1 (fails c.args.text c.args.password.now _ failed.0 why failed.2)
+    rw failed.1 (Fails-verify c.args.text c.args.password.now _ failed.0 why failed.2)
