@@ -1,7 +1,7 @@
 /*
- * argon2.h over the proved crate argon2_c. The crate decides what is refused and makes tags and texts, on memory that it
- * is lent: it names no allocator. The C turns null pointers, lengths of C strings and contexts into what the crate takes,
- * gets memory, copies what overlaps, calls the callbacks, wipes, and holds constant texts.
+ * The functions of argon2.h, over the proved crate argon2_c. The crate decides what is refused, and makes tags and texts. It
+ * requests no memory, because the C lends it memory. The C turns null pointers, C strings and contexts into arguments of the crate,
+ * requests memory, copies what overlaps, calls the callbacks, wipes memory, and contains the constant texts.
  */
 #define _GNU_SOURCE
 #include "private.h"
@@ -38,8 +38,8 @@ static int refusal(const argon2_context *c, argon2_type type) {
     return argon2_c_refusal(&request, c->outlen, c->pwdlen, c->saltlen, c->secretlen, c->adlen);
 }
 
-/* Hashes as the context says, of which nothing is refused, on `memory`, into `out`, which has the context's length and
- * lies apart from all inputs and from the memory. */
+/* Hashes as a context states, on `memory`, into `out`. The context is not refused. `out` has the length in the context, and
+ * overlaps neither an input nor the memory. */
 int hash_on(const argon2_context *c, argon2_type type, uint8_t *out, block *memory, bool wipes) {
     const struct request request = requested(c, type);
     const uint32_t workers = worker_count(c);
@@ -55,7 +55,7 @@ int hash_on(const argon2_context *c, argon2_type type, uint8_t *out, block *memo
     return answer;
 }
 
-/* Hashes so on memory of malloc's. */
+/* Does the same on memory from malloc. */
 int hash_into(const argon2_context *c, argon2_type type, uint8_t *out) {
     const size_t n = block_count(c);
     block *const memory = new_blocks(n);
@@ -140,8 +140,8 @@ size_t argon2_encodedlen(uint32_t t_cost, uint32_t m_cost, uint32_t lanes, uint3
 
 /* ---- verifying */
 
-/* How much of its room a text took: its salt, its tag and the tag that was made. A text that can't be read may have taken all of
- * it, and took nothing if it has not the four marks in front of a salt and a tag. */
+/* Returns how many bytes of the room were written: the salt and the tag of a text, and the tag that was made. A text that can't
+ * be read may have filled the room. It has written nothing if it lacks the four marks before a salt and a tag. */
 static size_t used(const struct shown *shown, int answer, const char *text, size_t n) {
     if (answer != ARGON2_DECODING_FAIL) return shown->salt + 2 * shown->tag;
     for (int marks = 0; text && marks < 4; marks++)
@@ -149,7 +149,8 @@ static size_t used(const struct shown *shown, int answer, const char *text, size
     return text ? 2 * n : 0;
 }
 
-/* By the law `verifying` of argon2_c all three calls return 0 exactly if the text is taken and has the password's tag. */
+/* By the law `verifying` of argon2_c, all three calls of the crate return 0 if and only if neither the call nor the text has a
+ * fault, and the hash of the text is the tag of the password. */
 int argon2_verify(const char *encoded, const void *pwd, size_t pwdlen, argon2_type type) {
     const size_t n = encoded ? strlen(encoded) : 0;
     uint8_t *const room = malloc(2 * n); /* for what the text says, and for the tag that is made: two bytes for each of the text */

@@ -1,6 +1,6 @@
 /*
- * argon2_phc.h over the module phc of the crate argon2_c. The crate reads and writes texts, decides what
- * is refused, and verifies. The C reads structures, finds null pointers and overlap, draws salts, and lends memory.
+ * The functions of argon2_phc.h, over the module phc of the crate argon2_c. The crate reads and writes texts, decides what
+ * is refused, and verifies. The C reads structures, finds null pointers and overlaps, draws salts, and lends memory.
  */
 #define _GNU_SOURCE
 #include "private.h"
@@ -16,9 +16,10 @@ _Static_assert(sizeof(argon2p_block) == sizeof(block), "the same blocks");
 
 /* ---- structures of the caller */
 
-enum { LARGEST = 4096 }; /* of a structure: a size above it is none */
+enum { LARGEST = 4096 }; /* size of a structure; a larger number is no size */
 
-/* Whether a structure is given that has `known` bytes, and after them only zeros. Then `own` gets the `known` bytes. */
+/* Returns whether a structure is given that has at least `known` bytes, and only zeros after them. If so, `own` gets these
+ * bytes. */
 static bool is_read(void *own, size_t known, const void *given) {
     size_t size = 0;
     if (given) memcpy(&size, given, sizeof size);
@@ -41,7 +42,7 @@ static int read_verifier(argon2p_verifier *own, const argon2p_verifier *given) {
 
 static bool lacks(const void *at, size_t n) { return !at && n; }
 
-/* The first null pointer among those of parameters. */
+/* Returns the code of the first null pointer in parameters, or ARGON2P_OK. */
 static int params_null(const argon2p_params *p) {
     return lacks(p->secret, p->secret_len) ? ARGON2P_SECRET_NULL : lacks(p->data, p->data_len) ? ARGON2P_DATA_NULL
         : lacks(p->keyid, p->keyid_len) ? ARGON2P_KEYID_NULL : ARGON2P_OK;
@@ -51,12 +52,12 @@ static struct phc_lengths lengths_of(const argon2p_params *p) {
     return (struct phc_lengths){p->keyid_len, p->data_len, p->secret_len, p->output_len, p->has_output_len != 0};
 }
 
-/* The bytes of the hash of a text under parameters. */
+/* Returns the number of bytes of the hash in a text with these parameters. */
 static size_t hash_length(const argon2p_params *p) {
     return p->has_output_len ? p->output_len : ARGON2P_DEFAULT_OUTPUT;
 }
 
-/* What parameters, a password and a salt are to the functions for argon2.h. Its lengths are right once nothing is refused. */
+/* Returns parameters, a password and a salt as a context. Its lengths, of 32 bits, are right if nothing is refused. */
 static argon2_context context_of(const argon2p_params *p, const void *pwd, size_t pwd_len, const void *salt, size_t salt_len,
     uint8_t *out, size_t out_len) {
     return (argon2_context){
@@ -68,7 +69,7 @@ static argon2_context context_of(const argon2p_params *p, const void *pwd, size_
     };
 }
 
-/* Parameters that were read, and what the functions of the crate get of them. */
+/* Parameters that were read, and the arguments of the crate's functions that are made of them. */
 struct call {
     argon2p_params params;
     argon2_context context;
@@ -76,7 +77,7 @@ struct call {
     struct phc_lengths lengths;
 };
 
-/* Sets the rest of a call whose parameters were read, and in which no pointer is missing. */
+/* Sets the other members of a call. Its parameters were read, and no pointer is missing. */
 static void begin_call(struct call *call, const void *pwd, size_t pwd_len, const void *salt, size_t salt_len, uint8_t *out,
     size_t out_len) {
     call->context = context_of(&call->params, pwd, pwd_len, salt, salt_len, out, out_len);
@@ -86,7 +87,7 @@ static void begin_call(struct call *call, const void *pwd, size_t pwd_len, const
 
 /* ---- texts */
 
-/* Writes the text of a hash under a call's parameters into `made`, which has room for any. */
+/* Writes the text of a hash under a call's parameters into `made`, which has room for any text. */
 static int encode(const struct call *call, bytes salt, size_t salt_len, bytes hash, size_t hash_len, uint8_t *made) {
     const argon2p_params *p = &call->params;
     return argon2_c_phc_encode(&call->request, some(p->keyid), p->keyid_len, some(p->data), p->data_len, salt, salt_len, hash,
@@ -200,7 +201,7 @@ int argon2p_needs_rehash(const argon2p_params *wanted, const char *text, size_t 
 
 /* ---- verifying */
 
-/* Makes the tag of a context on `memory`, and compares it with a text's. */
+/* Makes the tag of a context on `memory`, and compares it with the tag of a text. */
 static int verify_on(const argon2_context *c, const struct phc_shown *shown, block *memory) {
     int answer = hash_on(c, shown->algorithm, c->out, memory, true);
     if (answer == ARGON2_OK) answer = argon2_c_compare(shown->output, shown->output_len, c->out, c->outlen);
@@ -208,7 +209,8 @@ static int verify_on(const argon2_context *c, const struct phc_shown *shown, blo
     return answer;
 }
 
-/* Whether an admitted text accepts a password under a verifier's secret or, which sets `is_old`, its old secret. */
+/* Returns ARGON2P_OK if an admitted text accepts a password under a verifier's secret, or under its old secret. Sets `is_old`
+ * if the old secret is tried. */
 static int verify_admitted(const argon2p_verifier *own, const struct phc_shown *shown, const void *pwd, size_t pwd_len,
     bool *is_old) {
     uint8_t tag[ARGON2P_MAX_OUTPUT];
@@ -230,7 +232,8 @@ static int verify_admitted(const argon2p_verifier *own, const struct phc_shown *
     return answer;
 }
 
-/* By the law `verifying_within` of argon2_c all three calls return 0 exactly if the text accepts the password. */
+/* By the law `verifying_within` of argon2_c, all three calls of the crate return 0 if and only if the text is within the bound,
+ * accepts the password under the secret of the calls, and neither secret is too long. */
 int argon2p_verify(const argon2p_verifier *verifier, const char *text, size_t text_len, const void *pwd, size_t pwd_len,
     int *by_old_secret) {
     argon2p_verifier own;
@@ -258,7 +261,7 @@ size_t argon2p_block_count(uint32_t m_cost, uint32_t p_cost) {
     return p_cost >= ARGON2_MIN_LANES && p_cost <= ARGON2_MAX_LANES ? block_count(&c) : 0;
 }
 
-/* Why no tag of `out_len` bytes is made, or the memory is not filled. `is_lent` says whether the memory is the caller's. */
+/* Returns why no tag of `out_len` bytes is made, or why the memory is not filled. `is_lent` says whether the caller lent it. */
 static int tag_refusal(const struct call *call, size_t out_len, size_t pwd_len, size_t salt_len, bool is_lent, const void *memory,
     size_t blocks) {
     const argon2_context *c = &call->context;
@@ -273,7 +276,7 @@ static int tag_refusal(const struct call *call, size_t out_len, size_t pwd_len, 
 
 static bool is_block(const void *at) { return at && (uintptr_t)at % _Alignof(block) == 0; }
 
-/* The first null pointer among those of a tag's inputs. */
+/* Returns the code of the first null pointer in the inputs of a tag, or ARGON2P_OK. */
 static int inputs_null(const argon2p_params *p, const void *pwd, size_t pwd_len, const void *salt, size_t salt_len) {
     return lacks(pwd, pwd_len) ? ARGON2P_PASSWORD_NULL : lacks(salt, salt_len) ? ARGON2P_SALT_NULL
         : lacks(p->secret, p->secret_len) ? ARGON2P_SECRET_NULL : lacks(p->data, p->data_len) ? ARGON2P_DATA_NULL : ARGON2P_OK;

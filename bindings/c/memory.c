@@ -18,7 +18,7 @@ _Alignas(block) uint8_t nothing[1];
 
 int FLAG_clear_internal_memory = 1;
 
-/* Clears the registers that a call may change, if the compiler can: vector registers may have a part of a tag. */
+/* Clears the registers that a call may change, if the compiler can do this. Vector registers may contain a part of a tag. */
 #if __has_attribute(zero_call_used_regs)
 __attribute__((noinline, zero_call_used_regs("all")))
 #endif
@@ -27,7 +27,7 @@ static void clear_known_registers(void) {
 }
 
 #ifdef __x86_64__
-/* Clears those that only AVX-512 has, of which compilers know nothing here. glibc copies by them. */
+/* Clears the registers that only AVX-512 has. glibc copies with them, and code compiled without AVX-512 can't clear them. */
 __attribute__((noinline, target("avx512f"))) static void clear_further_registers(void) {
     __asm__ volatile(
         ".irp n, 16, 17, 18, 19, 20, 21, 22, 23, 24, 25, 26, 27, 28, 29, 30, 31\n\t"
@@ -45,7 +45,8 @@ static void clear_registers(void) {
     clear_known_registers();
 }
 
-/* Wipes bytes, and the registers that may have a part of them. Registers first: the loader can save them on the stack when explicit_bzero is called for the first time. */
+/* Wipes bytes, and the registers that may contain a part of them. The registers come first, because the loader can save them on
+ * the stack when explicit_bzero is called for the first time. */
 void wipe(void *at, size_t n) {
     if (!FLAG_clear_internal_memory) return;
     clear_registers();
@@ -57,7 +58,7 @@ void wipe_and_free(uint8_t *at, size_t n) {
     free(at);
 }
 
-/* Wipes what the crate's functions left on the stack, of which they use some 13 KiB. */
+/* Wipes what the crate's functions left on the stack. They use about 13 KiB of it. */
 __attribute__((noinline)) void wipe_stack(void) {
     uint8_t below[20 << 10];
     wipe(below, sizeof below);
@@ -67,8 +68,9 @@ __attribute__((noinline)) void wipe_stack(void) {
 
 enum { LINES = 128, HUGE_PAGE = 2 << 20, LARGE = 4 << 20, MAPPED = 32 << 20 };
 
-/* Large memory is in huge pages, which saves most page faults; without huge pages nothing is lost. Afterwards what the program
- * puts there is in small pages, so that it does not take more memory than it uses. A refusal is no error. */
+/* Asks for huge pages for large memory, which saves most page faults. Before the memory is freed, this asks for small pages
+ * again, so that what the program puts there later does not take more memory than it uses. It is no error if the system
+ * refuses. */
 static void advise(block *blocks, size_t n, int advice) {
     const int error = errno;
     const size_t whole = n * sizeof *blocks, before = -(uintptr_t)blocks % HUGE_PAGE; /* the bytes up to the first huge page */
@@ -76,9 +78,10 @@ static void advise(block *blocks, size_t n, int advice) {
     errno = error;
 }
 
-/* The blocks of a hash, which begin on a line of the cache. In front of them is the address that malloc gave: a program may
- * define malloc and free itself, and no memalign. Below 32 MiB malloc gives the same memory to the next hash, without a
- * fault. From there on it maps memory anew for each hash, so the blocks begin with a huge page. */
+/* Returns the blocks of a hash, which begin on a line of the cache. The address that malloc gave is stored before them.
+ * (memalign would need no such address, but a program may define malloc and free itself, without memalign.) Below 32 MiB,
+ * malloc gives the same memory to the next hash, without a page fault. From 32 MiB on, it maps new memory for each hash, so the
+ * blocks begin with a huge page. */
 block *new_blocks(size_t n) {
     const size_t whole = n * sizeof(block), multiple = whole < MAPPED ? LINES : HUGE_PAGE;
     uint8_t *const given = malloc(whole + multiple + sizeof given), *at;

@@ -15,7 +15,7 @@
 
 #pragma GCC visibility push(hidden)
 
-/* ---- what the crate exports: a slice is a pointer, never null, and a length */
+/* ---- what the crate exports (a slice is a pointer, which is never null, and a length) */
 
 _Static_assert(sizeof(size_t) == 8, "the crate's lengths have 64 bits");
 
@@ -48,18 +48,18 @@ struct shown {
 int32_t argon2_c_decode(uint32_t algorithm, bool has_text, bytes text, size_t, size_t pwd, bool lacks_pwd, struct shown *,
     uint8_t *room, size_t);
 
-/* A hash by parts, which threads.c puts together. */
-struct place {
+/* The parts of a hash, which threads.c puts together. */
+struct segment_at {
     uint32_t pass, slice, lane;
 };
 
 int32_t argon2_c_begin(const struct request *, bytes pwd, size_t, bytes salt, size_t, bytes secret, size_t,
     bytes associated, size_t, size_t output, block *slice, size_t);
 int32_t argon2_c_segment(const struct request *, bytes secret, size_t, bytes associated, size_t, const block *before,
-    size_t, block *own, size_t, const block *after, size_t, const struct place *);
+    size_t, block *own, size_t, const block *after, size_t, const struct segment_at *);
 int32_t argon2_c_finish(const struct request *, const block *last, size_t, uint8_t *out, size_t);
 
-/* ---- what it exports for argon2_phc.h */
+/* ---- what the crate exports for argon2_phc.h */
 
 struct phc_bound {
     uint32_t m_cost, t_cost, p_cost, min_output, max_output;
@@ -81,10 +81,10 @@ int32_t argon2_c_params_refusal(const struct request *, const struct phc_lengths
 int32_t argon2_c_text_refusal(const struct request *, const struct phc_lengths *, size_t salt, size_t hash, size_t pwd);
 int32_t argon2_c_tag_refusal(const struct request *, const struct phc_lengths *, size_t out, size_t pwd, size_t salt);
 
-int32_t argon2_c_phc_encode(const struct request *, bytes keyid, size_t, bytes data, size_t, bytes salt, size_t,
+int32_t argon2_c_phc_encode(const struct request *, bytes keyid, size_t, bytes associated, size_t, bytes salt, size_t,
     bytes hash, size_t, uint8_t *out, size_t);
 int32_t argon2_c_phc_show(bytes text, size_t, struct phc_shown *);
-int32_t argon2_c_phc_renewal(const struct request *, size_t output, bytes keyid, size_t, bytes data, size_t,
+int32_t argon2_c_phc_renewal(const struct request *, size_t output, bytes keyid, size_t, bytes associated, size_t,
     bytes text, size_t);
 int32_t argon2_c_phc_admit(const struct phc_bound *, bytes text, size_t, size_t pwd, size_t secret, size_t old_secret,
     struct phc_shown *);
@@ -99,11 +99,11 @@ extern _Alignas(block) uint8_t nothing[1];
 static inline uint8_t *some(const void *at) { return at ? (uint8_t *)at : nothing; }
 static inline size_t length(const void *at, size_t n) { return at ? n : 0; }
 
-/* The inputs of a context that nothing refuses. A missing input has length 0. */
+/* The inputs of a context that is not refused. A missing input has length 0. */
 #define SECRET_AND_DATA(c) some((c)->secret), (c)->secretlen, some((c)->ad), (c)->adlen
 #define INPUTS(c) some((c)->pwd), (c)->pwdlen, some((c)->salt), (c)->saltlen, SECRET_AND_DATA(c)
 
-/* How many of its blocks a hash uses. */
+/* Returns how many blocks a hash uses, which is m_cost rounded down to a multiple of 4 lanes. */
 static inline size_t block_count(const argon2_context *c) {
     return (size_t)(c->m_cost / (4 * c->lanes)) * (4 * c->lanes);
 }

@@ -1,18 +1,21 @@
 /*
- * Lanes filled by several threads. The memory is laid out slice by slice, in each slice lane by
- * lane, so that a segment, the slices before its own and those behind it are three ranges that lie apart.
+ * Several threads fill the lanes of a hash. The memory is laid out slice by slice, and in each slice lane by lane. So a
+ * segment, the slices before its slice, and the slices after its slice are three ranges that do not overlap.
  *
- * The tag is that of the law `segments_apart` under these conditions, which this C keeps and no proof sees. With S = m / (4 p):
- * - All calls of a hash have the same request, secret and data, and argon2_c_finish an output of the length given to
- *   argon2_c_begin.
- * - One memory of 4 S p blocks lives through all calls. argon2_c_begin has its first slice and argon2_c_finish its last.
- * - argon2_c_segment has, of slice k and lane l, the first k S p blocks of it, the S blocks from (k p + l) S on, and all from
- *   (k + 1) S p on.
- * - Each pass, slice and lane has one such call, after argon2_c_begin. All of a slice return before one of the next slice
- *   begins, in each pass in turn, and what they wrote is seen by those that follow.
- * - Nothing else writes to the memory from argon2_c_begin to the last segment, and to the last slice until argon2_c_finish
- *   returns.
- * - Each call's answer is looked at, and if one is not 0 no tag is given.
+ * The law `segments_apart` gives the tag if the following conditions hold. This C keeps them, and no proof checks that it does.
+ * S is m / (4 p).
+ * - All calls of a hash have the same request, secret and data. The output of argon2_c_finish has the length that
+ *   argon2_c_begin got.
+ * - One memory of 4 S p blocks lives through all calls. argon2_c_begin gets its first slice, and argon2_c_finish its last
+ *   slice.
+ * - For slice k and lane l, argon2_c_segment gets the first k S p blocks of the memory, the S blocks from block (k p + l) S on,
+ *   and all blocks from block (k + 1) S p on.
+ * - argon2_c_segment is called once for each pass, slice and lane, after argon2_c_begin. The passes come one after the other.
+ *   In a pass, all calls of a slice return before a call of the next slice begins. A call sees what all calls of earlier slices
+ *   and passes wrote.
+ * - From argon2_c_begin to the last segment, nothing else writes to the memory. Nothing else writes to the last slice until
+ *   argon2_c_finish returns.
+ * - The answer of each call is checked. If an answer is not 0, no tag is returned.
  */
 #define _GNU_SOURCE
 #include "private.h"
@@ -23,12 +26,12 @@
 #include <signal.h>
 
 enum {
-    FROM_HERE_IN_THREADS = 4 << 10, /* blocks: with less memory no thread pays */
-    STACK = 256 << 10, /* of each thread beside the default, which has room for the thread-local memory but may have no more */
-    LOOKS = 200, /* of a thread that waits for the next slice, before it sleeps */
+    FROM_HERE_IN_THREADS = 4 << 10, /* blocks; with fewer blocks, threads save no time */
+    STACK = 256 << 10, /* bytes added to the default size, which may have room for the thread-local memory only */
+    LOOKS = 200, /* how often a thread looks for the next slice before it sleeps */
 };
 
-/* 1 in a build of tests/c/check-races, in which no slice waits for the one before it. */
+/* 1 in a build of tests/c/check-races, in which no slice waits for the slice before it. */
 #ifndef RACES
 #define RACES 0
 #endif
@@ -38,17 +41,17 @@ struct filling {
     const argon2_context *context;
     const struct request *request;
     block *blocks;
-    size_t segment; /* its columns */
-    uint32_t workers; /* threads, with the caller's */
-    pthread_mutex_t lock; /* for what follows */
+    size_t segment; /* the number of its blocks */
+    uint32_t workers; /* the number of threads, with the caller's */
+    pthread_mutex_t lock; /* for the members after it */
     pthread_cond_t changed;
     uint32_t pass, slice;
-    uint32_t taken, filled; /* lanes of the slice; all are taken until the first slice is begun */
+    uint32_t taken, filled; /* lanes of the slice; all count as taken until the first slice is begun */
     uint32_t unwiped; /* segments of the first three slices; they are wiped when all slices are filled */
-    int answer; /* the first that is not 0 */
+    int answer; /* 0, or the answer of a call that failed */
 };
 
-/* How many threads make a hash, with the caller's. */
+/* Returns how many threads make a hash, with the caller's. */
 uint32_t worker_count(const argon2_context *c) {
     const uint32_t useful = c->threads < c->lanes ? c->threads : c->lanes;
     const int error = errno;
@@ -57,7 +60,7 @@ uint32_t worker_count(const argon2_context *c) {
     if (useful == 1 || block_count(c) < FROM_HERE_IN_THREADS) return 1;
     if (sched_getaffinity(0, sizeof set, &set) == 0) usable = (uint32_t)CPU_COUNT(&set);
     errno = error;
-    if (usable == 0) return 1; /* a filter of system calls can answer that all went well and write nothing */
+    if (usable == 0) return 1; /* a filter of system calls can report success and write nothing */
     return useful < usable ? useful : usable;
 }
 
@@ -67,13 +70,13 @@ static int fill_segments(const struct filling *f, uint32_t pass, uint32_t slice,
     const size_t width = f->segment * c->lanes;
     block *here = f->blocks + slice * width;
     int answer = ARGON2_OK;
-    for (struct place at = {pass, slice, lane}; at.lane < lane + n && answer == ARGON2_OK; at.lane++)
+    for (struct segment_at at = {pass, slice, lane}; at.lane < lane + n && answer == ARGON2_OK; at.lane++)
         answer = argon2_c_segment(f->request, SECRET_AND_DATA(c), f->blocks, slice * width, here + at.lane * f->segment,
             f->segment, here + width, (3 - slice) * width, &at);
     return answer;
 }
 
-/* Begins the filling, or ends it if the first slice was not begun. */
+/* Lets the threads begin to fill, or lets them end if the first slice was not begun. */
 static void begin_filling(struct filling *f, int answer) {
     pthread_mutex_lock(&f->lock);
     f->answer = answer;
@@ -82,7 +85,7 @@ static void begin_filling(struct filling *f, int answer) {
     pthread_mutex_unlock(&f->lock);
 }
 
-/* Counts lanes as filled. After the last one of a slice the next slice begins. */
+/* Counts lanes as filled. After the last lane of a slice the next slice begins. */
 static void count_filled(struct filling *f, uint32_t n) {
     f->filled += n;
     if (f->filled < f->context->lanes) return;
@@ -103,8 +106,8 @@ static void wait_briefly(void) {
     }
 }
 
-/* Takes lanes of the slice and fills their segments, again and again until the last slice is filled. Returns the same in all
- * threads: whether each segment was. */
+/* Takes lanes of the current slice and fills their segments, until the last slice is filled. Returns 0 in all threads if each
+ * segment was filled, and in no thread otherwise. */
 static int fill_slices(struct filling *f) {
     int result, looks = 0;
     pthread_mutex_lock(&f->lock);
@@ -140,7 +143,7 @@ static int fill_slices(struct filling *f) {
     return result;
 }
 
-/* Wipes segments of the first three slices, until none is left. The tag is made of the last slice meanwhile. */
+/* Wipes segments of the first three slices, until none is left. Meanwhile the tag is made of the last slice. */
 static void wipe_slices(struct filling *f) {
     pthread_mutex_lock(&f->lock);
     while (f->unwiped > 0) {
@@ -157,8 +160,8 @@ static void *work(void *filling) {
     return NULL;
 }
 
-/* Starts as many of the other threads as can be started, and returns how many. They take no signals but those of their
- * own faults. */
+/* Starts as many of the other threads as can be started, and returns how many. They accept no signals except the signals of
+ * their own faults. */
 static uint32_t start_threads(struct filling *f, pthread_t *threads) {
     static const int faults[] = {SIGSEGV, SIGBUS, SIGILL, SIGFPE, SIGTRAP, SIGSYS};
     const int error = errno;
@@ -179,7 +182,7 @@ static uint32_t start_threads(struct filling *f, pthread_t *threads) {
     return started;
 }
 
-/* Hashes as `argon2_c_hash` does, with so many threads. They have ended when this returns. */
+/* Hashes as `argon2_c_hash` does, with at most `workers` threads. The threads that it starts have ended when it returns. */
 int hash_in_threads(const argon2_context *c, const struct request *request, uint8_t *out, block *memory, bool wipes,
     uint32_t workers) {
     const size_t width = block_count(c) / 4;

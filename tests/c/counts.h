@@ -1,4 +1,4 @@
-/* What the programs of this folder that test share: what they count, and the processors that the system names to them. */
+/* The test programs of this folder share these counts, and the number of processors that the system reports to them. */
 #include <errno.h>
 #include <sched.h>
 #include <stdbool.h>
@@ -7,7 +7,7 @@
 
 static int passed, failed;
 
-/* Counts a check. It takes what is checked, and the row of it or what was found. */
+/* Counts a check. `what` says what is checked, and `row` is its row or a number that was found. */
 static void check(bool holds, const char *what, long row) {
     if (holds) passed++;
     else failed++, printf("failed: %s (%ld)\n", what, row);
@@ -19,7 +19,7 @@ static int ended(void) {
     return failed != 0 || passed == 0;
 }
 
-/* How many processors the system names. Below 0 calls fail. */
+/* How many processors the system reports. If this is below 0, the call fails. */
 static int processors = 4;
 
 int sched_getaffinity(pid_t process, size_t n, cpu_set_t *set) {

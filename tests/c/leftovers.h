@@ -1,17 +1,18 @@
-/* What a call leaves of a tag: in the registers, which tests.c and phc_tests.c copy as soon as it has returned, and elsewhere. */
+/* Finds the pieces of a tag that a call leaves in memory or in registers. tests.c and phc_tests.c copy the registers after a
+ * call. */
 #include <stdint.h>
 #include <string.h>
 
 #ifdef __x86_64__
 #include <cpuid.h>
 
-/* The general registers that a call may change, and the others: of x87, and vectors and masks of all lengths that there are. */
+/* The general registers that a call may change, and the other registers: x87, vectors and masks of all lengths. */
 static uint64_t general_registers[9];
 static uint8_t other_registers[1 << 14] __attribute__((aligned(64)));
 static bool has_xsave;
 
-/* Before a call. The other registers are cleared too, since a new thread begins with the registers of the thread that starts it,
- * and a test may have left a tag there. */
+/* Runs before a call. It clears the other registers too, because a new thread begins with the registers of the thread that starts
+ * it, and a test may have left a tag there. */
 static __attribute__((noinline)) void forget_registers(void) {
     const uint32_t mxcsr = 0x1F80;
     unsigned a, b, c, d;
@@ -19,7 +20,7 @@ static __attribute__((noinline)) void forget_registers(void) {
     has_xsave = __get_cpuid(1, &a, &b, &c, &d) && (c & bit_OSXSAVE) && __get_cpuid_count(13, 0, &a, &b, &c, &d)
         && b <= sizeof other_registers;
     if (!has_xsave) return;
-    /* (what is saved of no register sets each to zero, except this one) */
+    /* (an area in which no register is saved sets each of them to zero, except this one) */
     memcpy(other_registers + 24, &mxcsr, sizeof mxcsr);
     __asm__ volatile("xrstor64 %0" : : "m"(other_registers), "a"(-1), "d"(-1)
         : "xmm0", "xmm1", "xmm2", "xmm3", "xmm4", "xmm5", "xmm6", "xmm7", "xmm8", "xmm9", "xmm10", "xmm11", "xmm12", "xmm13", "xmm14",
@@ -43,7 +44,7 @@ static void forget_registers(void) {}
 static void copy_registers(void) {}
 #endif
 
-/* How many pieces of eight bytes of a tag of 32 are somewhere. */
+/* Returns how often a place contains one of the four pieces of eight bytes of a 32-byte tag. */
 static int pieces(const void *place, size_t n, const uint8_t *tag) {
     int found = 0;
     for (size_t at = 0; at + 8 <= n; at++)

@@ -1,7 +1,7 @@
 /*
- * What tests/c/run runs for argon2_phc.h: texts with a secret, old secrets, the bound, each code and their order, what a text shows,
- * renewal, salts that are drawn, lent blocks, structures of other sizes, refused memory, wiping, threads. Expected texts, tags and
- * blocks were computed by another implementation. Prints what fails, and last 'N passed, M failed'.
+ * Tests of argon2_phc.h, which tests/c/run runs: texts with a secret, old secrets, the bound, each code and the order of codes,
+ * what a text shows, renewal, salts that are drawn, lent blocks, structures of other sizes, refused memory, wiping, threads.
+ * Another implementation computed the expected texts, tags and blocks. Prints what fails, and last 'N passed, M failed'.
  */
 #define _GNU_SOURCE
 #include "argon2_phc.h"
@@ -13,7 +13,7 @@
 #include <stdlib.h>
 #include <sys/types.h>
 
-/* ---- requests for memory: counted, and from number `refuse` on refused, if that is not 0; words that were not wiped */
+/* ---- requests for memory, which are counted, and refused from number `refuse` on if it is not 0; words that were not wiped */
 
 static bool counting;
 static int requests;
@@ -38,7 +38,7 @@ void free(void *at) {
 }
 #endif
 
-/* Random bytes: so many calls are interrupted, and then 7, 8, 9 .. are drawn, or none. */
+/* Random bytes. First `interrupted` calls are interrupted. Then the bytes 7, 8, 9 .. are drawn, or none if `is_drained` is set. */
 static int interrupted;
 static bool is_drained;
 static uint8_t drawn = 7;
@@ -163,7 +163,7 @@ struct fault {
     int code;
 };
 
-/* In the order of refusal. */
+/* The faults, in the order in which they are refused. */
 static const struct fault faults[] = {
     IN_PARAMS(size, 3, ARGON2P_STRUCT), IN_PARAMS(reserved, 1, ARGON2P_STRUCT), IN_PARAMS(has_output_len, 0, ARGON2P_STRUCT),
     IN_PARAMS(secret, 0, ARGON2P_SECRET_NULL), IN_PARAMS(data, 0, ARGON2P_DATA_NULL), IN_PARAMS(keyid, 0, ARGON2P_KEYID_NULL),
@@ -177,7 +177,7 @@ static const struct fault faults[] = {
 
 static void set(void *at, const struct fault *fault) { memcpy((char *)at + fault->at, &fault->value, fault->size); }
 
-/* The code of hashing that writes nothing and asks for no memory. */
+/* Returns the code of hashing, or 1 if it writes something or asks for memory. */
 static int refused(const argon2p_params *p, const char *pwd, size_t pwd_len, const char *salt, size_t salt_len) {
     char text[8], same[8];
     int code;
@@ -237,7 +237,7 @@ static void codes(void) {
     check(argon2p_encode(&p, "somesalt", 49, tag, 32, text, 327) == ARGON2P_SALT_TOO_LONG, "a long salt", 1);
 }
 
-/* Each code has a message, and no two have the same. */
+/* Each code has a message, and all messages differ. */
 static void messages(void) {
     int known = 0;
     check(!strcmp(argon2p_error_message(1), "Unknown error code"), "no message", 1);
@@ -253,8 +253,8 @@ static void messages(void) {
 
 static const struct {
     const char *text;
-    int code; /* of verifying and, if the next is not 1, of what the text shows */
-    int shown;
+    int code; /* of verifying */
+    int shown; /* the code of argon2p_parse, or 1 if it is the same */
 } texts[] = {
     {"", ARGON2P_TEXT_INVALID, 1}, {"$", ARGON2P_TEXT_INVALID, 1}, {"argon2id", ARGON2P_TEXT_INVALID, 1},
     {COSTS "$c29tZXNhbHQ$bQk8UB8$", ARGON2P_TEXT_INVALID, 1}, {COSTS "$c29tZXNhbHR$bQk8UB8", ARGON2P_TEXT_INVALID, 1},
@@ -380,7 +380,7 @@ static void renewals(void) {
     check(argon2p_needs_rehash(&p, PLAIN, strlen(PLAIN), NULL) == ARGON2P_OUTPUT_NULL, "no answer", 0);
 }
 
-/* A structure that a later header may have. */
+/* Tries structures that a later header may declare. */
 static void later_structures(void) {
     struct {
         argon2p_params params;
@@ -396,7 +396,7 @@ static void later_structures(void) {
 
 /* ---- tags and lent blocks */
 
-/* A sum of all words, each by its place. */
+/* Returns the sum of all words, each multiplied by the number of its place. */
 static uint64_t sum(const argon2p_block *blocks, size_t n) {
     uint64_t total = 0;
     for (size_t i = 0; i < 128 * n; i++) total += (i + 1) * blocks[i / 128].words[i % 128];
@@ -498,8 +498,8 @@ static void *call_here(void *which) {
     return NULL;
 }
 
-/* No eight bytes of the tag stay on the stack, of which a call takes up to 32 KiB, or in a register. Of calls that hash nothing the
- * tag is that of their text. */
+/* A call uses at most 32 KiB of stack, and leaves no eight bytes of the tag there or in a register. For calls that hash
+ * nothing, the tag is the one in their text. */
 static void stacks_of_calls(void) {
     for (int which = 0; which < CALLS; which++) {
         pthread_attr_t attributes;
@@ -517,7 +517,7 @@ static void stacks_of_calls(void) {
 #endif
 
 #ifdef REFUSES
-/* A text that asks for more memory once its memory is there: it was read before. */
+/* The text changes to ask for more memory while its memory is requested. The call has read it before. */
 static void changed_text(void) {
     char text[] = TEXT;
     changing = strchr(text, '6');

@@ -1,8 +1,8 @@
 /*
- * Hashes whose lanes several threads fill, for tests/c/check-races, under ThreadSanitizer or helgrind. The C of the library is
- * linked with this, and its calls of the crate come here. ThreadSanitizer does not see into the crate, so each call of the crate
- * says here what it reads and writes, and is held against the order that the crate asks for. Prints what fails, and last
- * 'N passed, M failed'.
+ * Makes hashes whose lanes several threads fill. tests/c/check-races runs it under ThreadSanitizer or helgrind. The C code of
+ * the library is linked with this file, which gets its calls of the crate. ThreadSanitizer does not see into the crate, so the
+ * functions here tell it what each call reads and writes. They also check that the calls have the order that the crate
+ * requires. Prints what fails, and last 'N passed, M failed'.
  */
 #define _GNU_SOURCE
 #define argon2_c_begin watched_begin
@@ -22,7 +22,7 @@ __typeof__(watched_begin) argon2_c_begin;
 __typeof__(watched_segment) argon2_c_segment;
 __typeof__(watched_finish) argon2_c_finish;
 
-/* 1 for ThreadSanitizer, 0 for helgrind, which would see what is counted here. */
+/* This is 1 for ThreadSanitizer, and 0 for helgrind, which would see the counts here too. */
 #ifndef ANNOTATES
 #define ANNOTATES 0
 #endif
@@ -31,7 +31,7 @@ void __tsan_write_range(void *, long);
 
 enum { MOST_PASSES = 2, MOST_LANES = 9 };
 
-/* What of the hash was done; without an order, which would hide races. */
+/* Which segments of the hash are done. The counts set no order of memory, because that would hide races. */
 static uint32_t lanes;
 static atomic_uint made[4 * MOST_PASSES][MOST_LANES], filled[4 * MOST_PASSES], wrong;
 
@@ -51,10 +51,10 @@ int32_t watched_finish(const struct request *request, const block *last, size_t 
     return argon2_c_finish(request, last, width, out, outlen);
 }
 
-/* The first segment waits, so that other threads are there to fill the others. */
+/* The first segment waits, so that other threads have time to fill the other segments. */
 int32_t watched_segment(const struct request *request, bytes secret, size_t secretlen, bytes ad, size_t adlen,
     const block *before, size_t before_n, block *own, size_t n, const block *after, size_t after_n,
-    const struct place *at) {
+    const struct segment_at *at) {
     const size_t width = n * lanes;
     const uint32_t slice = at->slice, lane = at->lane, step = 4 * at->pass + slice;
     int32_t answer;

@@ -19,12 +19,12 @@
 
 enum { LENGTH = 16 };
 
-/* (the same memory each time) */
+/* (a call gets the same memory each time) */
 static uint8_t memory[1 << 14];
 static int take(uint8_t **at, size_t n) { *at = memory; return n <= sizeof memory ? 0 : -1; }
 static void give(uint8_t *at, size_t n) { (void)at, (void)n; }
 
-/* Hashes between two stops. */
+/* Hashes, and stops the process before the hash and after it. */
 static int hash(argon2_type type, unsigned number) {
     static uint8_t out[32], pwd[LENGTH], secret[LENGTH], salt[LENGTH];
     argon2_context context = {

@@ -12,30 +12,31 @@ use Rattle.argon2_base.specs.Texts.{strict_base64}
 use Rattle.argon2_base.proofs.phc_lemmas.Base64Lemmas.{IsUtf8-strict_base64}
 use Rattle.argon2_c.specs.Texts.{Said, IsSaid, spelling, version_part}
 
--- a mark before text
-IsUtf8-mark : (s t : List ℕ) → list_all (λ x. nat_lt x 128) s ≡ true → IsUtf8 t → IsUtf8 (s ++ t)
-IsUtf8-mark [] t h k = k
-IsUtf8-mark (c ∷ s) t h k =
+-- text after ASCII characters is UTF-8
+IsUtf8-after_ascii : (s t : List ℕ) → list_all (λ x. nat_lt x 128) s ≡ true → IsUtf8 t → IsUtf8 (s ++ t)
+IsUtf8-after_ascii [] t h k = k
+IsUtf8-after_ascii (c ∷ s) t h k =
     let parts = and_parts (nat_lt c 128) (list_all (λ x. nat_lt x 128) s) h in
     let one = IsAscii-cons c [] (ltb-true c 128 parts.0) IsAscii-nil in
-    IsUtf8-append (c ∷ []) (s ++ t) (IsUtf8-from_ascii (c ∷ []) one) (IsUtf8-mark s t parts.1 k)
+    IsUtf8-append (c ∷ []) (s ++ t) (IsUtf8-from_ascii (c ∷ []) one) (IsUtf8-after_ascii s t parts.1 k)
 
--- a mark and a number before text
-IsUtf8-number : (s : List ℕ) (n : ℕ) (t : List ℕ) → list_all (λ x. nat_lt x 128) s ≡ true → n < 2 ^ 32 → IsUtf8 t
+-- text after ASCII characters and a number is UTF-8
+IsUtf8-after_number : (s : List ℕ) (n : ℕ) (t : List ℕ) → list_all (λ x. nat_lt x 128) s ≡ true → n < 2 ^ 32 → IsUtf8 t
     → IsUtf8 (s ++ (decimal n ++ t))
-IsUtf8-number s n t h small k =
-    IsUtf8-mark s _ h (IsUtf8-append (decimal n) t (IsUtf8-from_ascii (decimal n) (IsAscii-decimal n (omega arith))) k)
+IsUtf8-after_number s n t h small k =
+    IsUtf8-after_ascii s _ h (IsUtf8-append (decimal n) t (IsUtf8-from_ascii (decimal n) (IsAscii-decimal n (omega arith))) k)
 
--- a version before text
-IsUtf8-version_part : (o : Option ℕ) (t : List ℕ) → IfSome o (λ n. n < 2 ^ 32) → IsUtf8 t → IsUtf8 (version_part o t)
-IsUtf8-version_part None t h k = k
-IsUtf8-version_part (Some n) t h k = IsUtf8-number (codes "v=") n _ refl h (IsUtf8-mark (codes "$") t refl k)
+-- text after a version is UTF-8
+IsUtf8-after_version : (o : Option ℕ) (t : List ℕ) → IfSome o (λ n. n < 2 ^ 32) → IsUtf8 t → IsUtf8 (version_part o t)
+IsUtf8-after_version None t h k = k
+IsUtf8-after_version (Some n) t h k = IsUtf8-after_number (codes "v=") n _ refl h (IsUtf8-after_ascii (codes "$") t refl k)
 
--- a spelling is text
+-- a spelling is UTF-8
 pub IsUtf8-spelling : (name : List ℕ) (v : Said) → IsUtf8 name → IsSaid v → IsUtf8 (spelling name v)
 IsUtf8-spelling name v n h =
-    IsUtf8-mark (codes "$") _ refl (IsUtf8-append name _ n (IsUtf8-mark (codes "$") _ refl
-    (IsUtf8-version_part v.version _ h.small_version (IsUtf8-number (codes "m=") v.m_cost _ refl h.small_m_cost
-    (IsUtf8-number (codes ",t=") v.t_cost _ refl h.small_t_cost (IsUtf8-number (codes ",p=") v.lanes _ refl h.small_lanes
-    (IsUtf8-mark (codes "$") _ refl (IsUtf8-append (strict_base64 v.salt) _ (IsUtf8-strict_base64 v.salt)
-    (IsUtf8-mark (codes "$") _ refl (IsUtf8-strict_base64 v.tag))))))))))
+    IsUtf8-after_ascii (codes "$") _ refl (IsUtf8-append name _ n (IsUtf8-after_ascii (codes "$") _ refl
+    (IsUtf8-after_version v.version _ h.small_version (IsUtf8-after_number (codes "m=") v.m_cost _ refl h.small_m_cost
+    (IsUtf8-after_number (codes ",t=") v.t_cost _ refl h.small_t_cost
+    (IsUtf8-after_number (codes ",p=") v.lanes _ refl h.small_lanes
+    (IsUtf8-after_ascii (codes "$") _ refl (IsUtf8-append (strict_base64 v.salt) _ (IsUtf8-strict_base64 v.salt)
+    (IsUtf8-after_ascii (codes "$") _ refl (IsUtf8-strict_base64 v.tag))))))))))

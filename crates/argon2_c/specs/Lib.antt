@@ -1,6 +1,9 @@
-pub mod PhcReading
+pub mod Decoding
+pub mod PhcAdmission
+pub mod PhcFaults
+pub mod PhcRenewal
 pub mod PhcRequests
+pub mod PhcShown
 pub mod Requests
 pub mod Texts
 pub mod Verification
-pub mod Verifying

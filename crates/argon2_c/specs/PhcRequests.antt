@@ -24,7 +24,7 @@ error_code _ = MEMORY_TOO_LITTLE
 abbrev pub length_set : Bool → ℕ → Option ℕ
 length_set is_set n = if is_set then Some n else None
 
--- why a variant, a version and lengths of a key identifier, of data and of a secret are refused
+-- why a variant, a version and the lengths of a key identifier, of associated data and of a secret are refused
 abbrev pub own_faults : Request → ℕ → ℕ → ℕ → ℕ → List (Bool × ℤ)
 own_faults r most_associated keyid associated secret =
     (nat_lt 8 keyid, KEYID_TOO_LONG)
@@ -51,7 +51,7 @@ making_faults salt hash password =
     ∷ (nat_lt max_len password, PWD_TOO_LONG)
     ∷ []
 
--- the faults of a tag of `out` bytes, by this length and those of the password and the salt
+-- the faults of a tag of `out` bytes, by this length and the lengths of the password and the salt
 abbrev pub tag_faults : Option ℕ → ℕ → ℕ → ℕ → List (Bool × ℤ)
 tag_faults output out password salt =
     (nat_lt out (unwrap_or output 4), OUTPUT_TOO_SHORT)
@@ -71,7 +71,7 @@ value_with r keyid associated salt hash = record {
   hash = Some hash;
 }
 
--- what writing the text of a hash answers, with so much room for it and a zero byte
+-- what writing the text of a hash and a zero byte into `room` bytes answers
 abbrev pub phc_encode_code : Request → List ℕ → List ℕ → List ℕ → List ℕ → ℕ → ℤ
 phc_encode_code r keyid associated salt hash room = unwrap_or
     (option_or (params_refusal r None 32 (length keyid) (length associated) 0)

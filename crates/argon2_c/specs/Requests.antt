@@ -1,8 +1,7 @@
 -- What a C caller asks for: what its hash depends on, and why it is refused.
 use Rattle.std.specs.Prelude.{◌≡◌, ◌⊎◌, ◌↔◌, ℕ, ◌*◌, ◌≤◌, ◌&&◌, not, nat_lt, ◌==◌, Bool, ℤ, List, [], ◌∷◌, length}
-use Rattle.argon2.specs.Rfc9106.{Context, tag_of}
+use Rattle.argon2.specs.Rfc9106.{Context, block_count, tag_of}
 use Rattle.argon2.specs.Refusals.{max_len}
-use Rattle.argon2.specs.Segments.{slice_length}
 use Rattle.argon2.specs.Settings.{max_lanes}
 use Rattle.argon2_c.specs.declared.code.TheConstants.{OK, OUTPUT_PTR_NULL, OUTPUT_TOO_SHORT, OUTPUT_TOO_LONG, PWD_TOO_LONG, SALT_TOO_SHORT, SALT_TOO_LONG, AD_TOO_LONG, SECRET_TOO_LONG, TIME_TOO_SMALL, MEMORY_TOO_LITTLE, LANES_TOO_FEW, LANES_TOO_MANY, PWD_PTR_MISMATCH, SALT_PTR_MISMATCH, SECRET_PTR_MISMATCH, AD_PTR_MISMATCH, FREE_MEMORY_CBK_NULL, ALLOCATE_MEMORY_CBK_NULL, INCORRECT_TYPE, THREADS_TOO_FEW, THREADS_TOO_MANY}
 use Rattle.argon2_c.specs.declared.request.Request.{Request}
@@ -19,8 +18,8 @@ request_context request secret associated = record {
   associated = associated;
 }
 
--- why a request is refused, by the lengths of output, password, salt, secret and associated data,
--- in the order of argon2.h's library; a variant and a version that there are not come last
+-- Why a request is refused, by the lengths of output, password, salt, secret and associated data, in the order of argon2.h's
+-- library. A variant and a version that do not exist come last.
 abbrev pub request_faults : Request → ℕ → ℕ → ℕ → ℕ → ℕ → List (Bool × ℤ)
 request_faults r output password salt secret associated =
     (r.lacks_output, OUTPUT_PTR_NULL)
@@ -48,7 +47,7 @@ request_faults r output password salt secret associated =
     ∷ (not (r.version == 16) && not (r.version == 19), INCORRECT_TYPE)
     ∷ []
 
--- why lengths that argon2_hash was given are refused before all else
+-- why argon2_hash refuses lengths before all else
 abbrev pub length_faults : ℕ → ℕ → ℕ → List (Bool × ℤ)
 length_faults output password salt =
     (nat_lt max_len password, PWD_TOO_LONG)
@@ -57,7 +56,7 @@ length_faults output password salt =
     ∷ (nat_lt output 4, OUTPUT_TOO_SHORT)
     ∷ []
 
--- what a hash needs of a request, which a request has that is not refused: null pointers, threads and callbacks aside
+-- the request has none of the faults that matter to a hash: null pointers, threads and callbacks do not
 pub record IsFaultless (r : Request) (output password salt secret associated : ℕ) : Type 0 where
   pub out_least : 4 ≤ output
   pub out_most : output ≤ max_len
@@ -73,10 +72,10 @@ pub record IsFaultless (r : Request) (output password salt secret associated : �
   pub is_variant : r.algorithm ≤ 2
   pub is_version : (r.version ≡ 16) ⊎ (r.version ≡ 19)
 
--- what hashing on `blocks` blocks answers: the code, and the tag in place of what was in `out`
+-- what hashing on `blocks` blocks answers: the code, and the tag, which has the length of `out`
 pub record IsTagged (r : Request) (password salt secret associated : List ℕ) (blocks : ℕ) (out : List ℕ)
     (code : ℤ) (tag : List ℕ) : Type 0 where
   pub taken : (code ≡ OK)
       ↔ IsFaultless r (length out) (length password) (length salt) (length secret) (length associated)
-      × (blocks ≡ 4 * slice_length (request_context r [] []))
+      × (blocks ≡ block_count (request_context r [] []))
   pub tagged : code ≡ OK → tag ≡ tag_of (request_context r secret associated) password salt (length out)

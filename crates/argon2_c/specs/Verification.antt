@@ -1,18 +1,22 @@
 -- The calls that verify the text of a hash, one after another: for argon2.h, and for argon2_phc.h.
-use Rattle.std.specs.Prelude.{◌≡◌, ◌⊎◌, ℕ, ◌*◌, ◌≤◌, Bool, ℤ, None, List, [], drop, length, take}
+use Rattle.std.specs.Prelude.{◌≡◌, ◌⊎◌, ℕ, ◌≤◌, Bool, ℤ, if◌then◌else◌, None, List, [], drop, length, take}
+use Rattle.std.specs.Str.{bytes_eq}
 use Rattle.argon2.specs.Bound.{AcceptsWithin}
 use Rattle.argon2.specs.Refusals.{max_len}
-use Rattle.argon2.specs.Rfc9106.{tag_of}
-use Rattle.argon2.specs.Segments.{slice_length}
-use Rattle.argon2_c.specs.declared.code.TheConstants.{OK}
+use Rattle.argon2.specs.Rfc9106.{block_count, tag_of}
+use Rattle.argon2_c.specs.declared.code.TheConstants.{OK, VERIFY_MISMATCH}
 use Rattle.argon2_c.specs.declared.decode.Shown.{Shown}
 use Rattle.argon2_c.specs.declared.phc.shown.PhcShown.{PhcShown}
-use Rattle.argon2_c.specs.declared.phc.verify.PhcBound.{PhcBound}
+use Rattle.argon2_c.specs.declared.phc.admit.PhcBound.{PhcBound}
 use Rattle.argon2_c.specs.declared.request.Request.{Request}
-use Rattle.argon2_c.specs.PhcReading.{admitted_request, bound_of, IsAdmitted}
+use Rattle.argon2_c.specs.PhcAdmission.{admitted_request, bound_of, IsAdmitted}
 use Rattle.argon2_c.specs.Requests.{request_context, IsTagged}
 use Rattle.argon2_c.specs.Texts.{IsShown, Said, Says}
-use Rattle.argon2_c.specs.Verifying.{call_refusal, compare_code, said_code, shown_request, IsDecoded}
+use Rattle.argon2_c.specs.Decoding.{call_refusal, said_code, shown_request, IsDecoded}
+
+-- the code of comparing two hashes
+abbrev pub compare_code : List ℕ → List ℕ → ℤ
+compare_code a b = if bytes_eq a b then OK else VERIFY_MISMATCH
 
 -- A text and a password, and what the calls make of them: each is as its contract says.
 pub record Verification : Type 0 where
@@ -35,12 +39,12 @@ pub record Verification : Type 0 where
   pub hashed : ℤ
   pub tag : List ℕ
   pub hashes : decoded ≡ OK → IsTagged request password (take shown.salt room) [] []
-      (4 * slice_length (request_context request [] [])) out hashed tag
+      (block_count (request_context request [] [])) out hashed tag
   -- then `argon2_c_compare` with the hash that is shown
   pub compared : ℤ
   pub compares : decoded ≡ OK → hashed ≡ OK → compared ≡ compare_code (take shown.tag (drop shown.salt room)) tag
 
--- the text is one that is taken, and its hash is the password's tag under what it says
+-- neither the call nor what the text says has a fault, and the hash of the text is the password's tag
 abbrev pub IsAccepted : Verification → Type 0
 IsAccepted c = (v : Said) × Says c.algorithm c.text v
     × (call_refusal c.algorithm c.has_text (length c.text) (length c.password) (length c.lent) ≡ None)
@@ -59,8 +63,8 @@ pub record BoundVerification : Type 0 where
   pub admitted : ℤ
   pub shown : PhcShown
   pub admits : IsAdmitted bound text (length password) (length secret) (length old_secret) admitted shown
-  -- then `argon2_c_hash` under one of the secrets, with the request, the salt and the data that are shown, on as much memory as
-  -- the costs ask for
+  -- then `argon2_c_hash` under one of the secrets, with the request, the salt and the associated data that are shown, on as much
+  -- memory as the costs ask for
   pub key : List ℕ
   pub is_key : (key ≡ secret) ⊎ (key ≡ old_secret)
   pub threads : ℕ
@@ -69,7 +73,7 @@ pub record BoundVerification : Type 0 where
   pub hashed : ℤ
   pub tag : List ℕ
   pub hashes : admitted ≡ OK → IsTagged (admitted_request threads shown) password (take shown.salt_len shown.salt) key
-      (take shown.associated_len shown.associated) (4 * slice_length (request_context (admitted_request threads shown) [] []))
+      (take shown.associated_len shown.associated) (block_count (request_context (admitted_request threads shown) [] []))
       out hashed tag
   -- then `argon2_c_compare` with the hash that is shown
   pub compared : ℤ

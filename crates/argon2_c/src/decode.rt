@@ -1,18 +1,23 @@
-//! Texts, read from left to right. The salt and the hash have any length.
+//! Reading the text of a hash, from left to right. The salt and the hash have any length.
 
-ghost use Rattle.std.specs.Prelude.{◌≡◌, ◌∷◌, ◌++◌, ◌+◌, ◌*◌, ◌<◌, ◌≤◌, ◌^◌, ℕ, List, Option, false, true, codes, length, IfSome, IsSomeAnd};
+ghost use Rattle.std.specs.Prelude.{◌≡◌, ◌∷◌, ◌++◌, ◌+◌, ◌*◌, ◌<◌, ◌≤◌, ◌^◌, ℕ, ℤ, List, Option, None, Some, IfOk, false, true, codes, length, IfSome, IsSomeAnd};
+ghost use Rattle.std.specs.Result.{result_err};
 ghost use Rattle.std.specs.List.{list_all};
 ghost use Rattle.std.specs.Fmt.{decimal};
 ghost use Rattle.base64.specs.Decode.{IsWrittenOver, decoded_estimate};
 ghost use Rattle.argon2_base.specs.Texts.{IsBytes, is_value_char, strict_base64};
 ghost use Rattle.argon2.specs.Settings.{algorithm_number};
 ghost use Rattle.argon2_c.specs.Texts.{IsShown, Said, IsSaid, Says, costs_part, in_base64, plain_spelling, said_of, spelling, version_part};
+ghost use Rattle.argon2_c.specs.Decoding.{call_refusal, shown_request, IsDecoded};
 
-use argon2::Algorithm;
+use crate::code::{DECODING_FAIL, INCORRECT_TYPE, MEMORY_ALLOCATION_ERROR, OK, PWD_TOO_LONG};
+use crate::number::variant;
+use crate::request::{Request, argon2_c_refusal};
+use argon2::{Algorithm, MAX_PWD_LEN};
 use argon2_base::phc::read_decimal;
 use base64::engine::general_purpose::STANDARD_NO_PAD;
 
-/// What a text says, whose salt and hash stand elsewhere.
+/// What a text says, except for the bytes of its salt and of its hash.
 #[repr(C)]
 #[derive(Clone, Copy)]
 pub struct Shown {
@@ -30,9 +35,101 @@ pub struct Shown {
     pub tag: usize,
 }
 
-/// Reads a text of this variant, and writes its salt and then its hash to the front of `room`. If it
-/// is no such text, `room` may hold anything.
-pub fn decode(algorithm: Algorithm, text: &[u8], room: &mut [u8]) -> Option<Shown>
+// The most bytes of a text. The reference library refuses a longer text.
+const MAX_TEXT_LEN: usize = 4294967295;
+
+/// Reads the text of a hash, to verify a password of `pwd` bytes, and returns 0. `lacks_pwd` says that the password's
+/// pointer is null and its length is not 0.
+///
+/// If neither the call nor the text is refused, `shown` then holds what the text says, `room` begins with the salt and then
+/// the hash, and the rest of `room` is as before. After the answer 0 that rest is long enough for another hash.
+///
+/// # Errors
+/// The first of these that holds:
+/// - the code of the call's first fault.
+/// - -32: the text is not in the variant's grammar.
+/// - the code of the first fault of the request that the text stands for.
+#[unsafe(no_mangle)]
+pub extern "C" fn argon2_c_decode(
+    algorithm: u32,
+    has_text: bool,
+    text: &[u8],
+    pwd: usize,
+    lacks_pwd: bool,
+    shown: &mut Shown,
+    room: &mut [u8],
+) -> i32
+    ensures decoded { IsDecoded algorithm has_text text.now pwd lacks_pwd room.old result shown.new
+        room.new }
+    ensures refused { (e : ℤ) → call_refusal algorithm has_text (length text.now) pwd
+        (length room.old) ≡ Some e → (shown.new ≡ shown.old) × (room.new ≡ room.old) }
+    ensures unsaid { call_refusal algorithm has_text (length text.now) pwd (length room.old) ≡ None
+        → ((v : Said) → Says algorithm text.now v → ⊥)
+        → (result ≡ DECODING_FAIL) × (shown.new ≡ shown.old) }
+    ensures within { result ≡ OK → shown.new.salt + 2 * shown.new.tag ≤ length room.old }
+{
+    let variant = match asked_variant(algorithm, has_text, text.len(), pwd, room.len()) {
+        Ok(variant) => variant,
+        Err(code) => return code,
+    };
+    let Some(found) = decode(variant, text, room) else {
+        return DECODING_FAIL;
+    };
+    *shown = found;
+    let request = shown_request(algorithm, lacks_pwd, &found);
+    argon2_c_refusal(&request, found.tag, pwd, found.salt, 0, 0)
+}
+
+// The variant that a call asks for, or why the call is refused before the text is read.
+fn asked_variant(
+    algorithm: u32,
+    has_text: bool,
+    text: usize,
+    pwd: usize,
+    room: usize,
+) -> Result<Algorithm, i32>
+    ensures first { result_err result ≡ call_refusal algorithm has_text text pwd room }
+    ensures ok { IfOk result (λ variant. (algorithm_number variant ≡ algorithm) × (2 * text ≤ room)) }
+{
+    if pwd > MAX_PWD_LEN {
+        return Err(PWD_TOO_LONG);
+    }
+    if !has_text || text > MAX_TEXT_LEN {
+        return Err(DECODING_FAIL);
+    }
+    let Some(variant) = variant(algorithm) else {
+        return Err(INCORRECT_TYPE);
+    };
+    if room < 2 * text {
+        return Err(MEMORY_ALLOCATION_ERROR);
+    }
+    Ok(variant)
+}
+
+// The request that a text stands for.
+fn shown_request(algorithm: u32, lacks_pwd: bool, shown: &Shown) -> Request
+    ensures { (v : Said) → IsShown v shown.now → result ≡ shown_request algorithm lacks_pwd v }
+{
+    Request {
+        algorithm,
+        version: shown.version,
+        m_cost: shown.m_cost,
+        t_cost: shown.t_cost,
+        lanes: shown.lanes,
+        threads: shown.lanes,
+        lacks_output: false,
+        lacks_pwd,
+        lacks_salt: false,
+        lacks_secret: false,
+        lacks_associated: false,
+        has_allocate: false,
+        has_free: false,
+    }
+}
+
+// Reads a text of this variant, and writes its salt and then its hash to the beginning of `room`. If the text is not in the
+// variant's grammar, `room` may hold anything.
+fn decode(algorithm: Algorithm, text: &[u8], room: &mut [u8]) -> Option<Shown>
     requires { 2 * length text.now ≤ length room.old }
     ensures found { IfSome result (λ shown. (v : Said) × Says (algorithm_number algorithm) text.now v
         × IsShown v shown × IsWrittenOver (v.salt ++ v.tag) room.old room.new) }
@@ -57,7 +154,7 @@ pub fn decode(algorithm: Algorithm, text: &[u8], room: &mut [u8]) -> Option<Show
     })
 }
 
-// The version, the costs, and the Base64 of the salt and of the hash, of a text with this name.
+// Splits a text with this name into its version, its costs, and the Base64 of its salt and of its hash.
 #[tactic(auto, using(argon2_base::proofs::phc_lemmas::ValueCharacters::base64_chars))]
 fn split<'a>(name: &str, text: &'a str) -> Option<(Option<u32>, (u32, u32, u32), &'a str, &'a str)>
     ensures found { IfSome result (λ p. text.now
@@ -82,28 +179,28 @@ fn after_name<'a>(name: &str, text: &'a str) -> Option<&'a str>
     ensures only { (left : List ℕ) → text.now ≡ 36 ∷ (name.now ++ 36 ∷ left)
         → IsSomeAnd result (λ x. x.now ≡ left) }
 {
-    let text = behind(text, "$")?;
-    let text = behind(text, name)?;
-    behind(text, "$")
+    let text = after(text, "$")?;
+    let text = after(text, name)?;
+    after(text, "$")
 }
 
-// What follows this text at the front.
-fn behind<'a>(text: &'a str, front: &str) -> Option<&'a str>
-    ensures found { IfSome result (λ x. text.now ≡ front.now ++ x.now) }
-    ensures only { (left : List ℕ) → text.now ≡ front.now ++ left → IsSomeAnd result
+// What follows a prefix.
+fn after<'a>(text: &'a str, prefix: &str) -> Option<&'a str>
+    ensures found { IfSome result (λ x. text.now ≡ prefix.now ++ x.now) }
+    ensures only { (left : List ℕ) → text.now ≡ prefix.now ++ left → IsSomeAnd result
         (λ x. x.now ≡ left) }
 {
-    text.strip_prefix(front)
+    text.strip_prefix(prefix)
 }
 
-// The version, if there is one, and what follows.
+// The version, if the text has one, and what follows.
 fn version(text: &str) -> Option<(Option<u32>, &str)>
     ensures found { IfSome result (λ x. text.now ≡ version_part x.0 x.1.now) }
     ensures only { (o : Option ℕ) (left : List ℕ) → IfSome o (λ n. n < 2 ^ 32)
         → text.now ≡ version_part o (codes "m=" ++ left)
         → IsSomeAnd result (λ x. (x.0 ≡ o) × (x.1.now ≡ codes "m=" ++ left)) }
 {
-    let Some(left) = behind(text, "v=") else {
+    let Some(left) = after(text, "v=") else {
         return Some((None, text));
     };
     let (number, left) = number(left, '$')?;
@@ -131,7 +228,7 @@ fn field<'a>(text: &'a str, name: &str, mark: char) -> Option<(u32, &'a str)>
         ++ (decimal n ++ mark ∷ left)
         → IsSomeAnd result (λ x. (x.0 ≡ n) × (x.1.now ≡ left)) }
 {
-    number(behind(text, name)?, mark)
+    number(after(text, name)?, mark)
 }
 
 // The number before a mark, and what follows.
@@ -146,7 +243,7 @@ fn number(text: &str, mark: char) -> Option<(u32, &str)>
     Some((read_decimal(digits)?, left))
 }
 
-// The text up to the first such mark, and what follows that.
+// The text up to the first mark of this kind, and what follows the mark.
 fn cut(text: &str, mark: char) -> Option<(&str, &str)>
     requires { (mark < 128) × (is_value_char mark ≡ false) }
     ensures found { IfSome result (λ x. text.now ≡ x.0.now ++ mark ∷ x.1.now) }
@@ -157,7 +254,7 @@ fn cut(text: &str, mark: char) -> Option<(&str, &str)>
     text.split_once(mark)
 }
 
-// Writes the bytes whose strict Base64 a text is to the front of `out`, and returns how many they are.
+// Decodes strict Base64 into the beginning of `out`, and returns the number of bytes.
 fn bytes(text: &str, out: &mut [u8]) -> Option<usize>
     requires { decoded_estimate (length text.now) ≤ length out.old }
     ensures found { IfSome result (λ n. (b : List ℕ) × IsBytes b × (text.now ≡ strict_base64 b)

@@ -1,8 +1,10 @@
-//! What `bindings/c/argon2_phc.h` is built on: texts of the grammar of `argon2::phc`, with a secret and within a
-//! bound. No call allocates.
+//! What `bindings/c/argon2_phc.c` calls: texts of the grammar of `argon2::phc`, with a secret and within a bound. No call
+//! allocates.
 
+pub mod admit;
+pub mod encode;
 mod fault;
-pub mod making;
-pub mod reading;
+mod reading;
+pub mod refusals;
+pub mod renewal;
 pub mod shown;
-pub mod verify;

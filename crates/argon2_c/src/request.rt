@@ -5,7 +5,7 @@ ghost use Rattle.argon2.specs.Refusals.{first_of};
 ghost use Rattle.argon2_c.specs.Requests.{IsFaultless, length_faults, request_faults};
 
 use crate::code::*;
-use crate::hash::variant;
+use crate::number::{variant, version};
 use argon2::{MAX_AD_LEN, MAX_PWD_LEN, MAX_SALT_LEN, MAX_SECRET_LEN, MIN_SALT_LEN, Params};
 
 /// What a C caller asks for, besides its bytes.
@@ -34,9 +34,9 @@ pub struct Request {
     pub lacks_secret: bool,
     /// Whether the associated data's pointer is null and its length is not 0.
     pub lacks_associated: bool,
-    /// Whether there is a function that gives memory.
+    /// Whether the caller sets a function that gives memory.
     pub has_allocate: bool,
-    /// Whether there is a function that takes memory back.
+    /// Whether the caller sets a function that takes memory back.
     pub has_free: bool,
 }
 
@@ -98,14 +98,14 @@ pub extern "C" fn argon2_c_refusal(
         ALLOCATE_MEMORY_CBK_NULL
     } else if variant(request.algorithm).is_none() {
         INCORRECT_TYPE
-    } else if request.version != 16 && request.version != 19 {
+    } else if version(request.version).is_none() {
         INCORRECT_TYPE
     } else {
         OK
     }
 }
 
-/// The code of `argon2_hash` that refuses these lengths before everything else, or 0.
+/// The code with which `argon2_hash` refuses these lengths before everything else, or 0.
 #[unsafe(no_mangle)]
 pub extern "C" fn argon2_c_length_refusal(output: usize, pwd: usize, salt: usize) -> i32
     ensures { result ≡ unwrap_or (first_of (length_faults output pwd salt)) OK }

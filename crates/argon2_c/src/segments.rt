@@ -1,28 +1,28 @@
-//! Hashing on memory that the C has, by a call for each segment, so that threads can share the lanes of a
+//! Hashing on memory that the C lends, by a call for each segment, so that threads can share the lanes of a
 //! slice.
 //!
 //! The memory is laid out slice by slice, in each slice lane by lane: with segments of S = m / (4 p)
 //! blocks, the block of a lane and a column is at ((column / S) * p + lane) * S + column % S.
 
-ghost use Rattle.std.specs.Prelude.{◌≡◌, ◌≢◌, ◌↔◌, ◌*◌, ◌≤◌, ℕ, List, [], length, IsTrue};
+ghost use Rattle.std.specs.Prelude.{◌≡◌, ◌≢◌, ◌↔◌, ◌*◌, ◌<◌, ◌≤◌, ◌^◌, ℕ, List, [], length, IsTrue};
 ghost use Rattle.argon2_base.specs.Block.{bytes_of};
 ghost use Rattle.argon2_base.specs.LongHash.{long_hash};
 ghost use Rattle.argon2.specs.Rfc9106.{first_block, segment_length};
+ghost use Rattle.argon2.specs.Argon2.{context_of};
 ghost use Rattle.argon2.specs.Refusals.{max_len};
-ghost use Rattle.argon2.specs.Settings.{max_lanes};
 ghost use Rattle.argon2.specs.Segments.{AreLengths, BeginsSlices, FillsSegment, last_of_slice, slice_length};
 ghost use Rattle.argon2_c.specs.Requests.{request_context, IsFaultless};
 
 use crate::code::{INCORRECT_PARAMETER, OK};
 use crate::hash::hashing;
 use crate::request::Request;
-use argon2::{MAX_PWD_LEN, MAX_SALT_LEN, MIN_SALT_LEN, Params, Segment};
+use argon2::{Argon2, MAX_PWD_LEN, MAX_SALT_LEN, MIN_SALT_LEN, Params, Segment};
 use argon2_base::block::Words;
 
 /// A segment, and the pass in which it is filled.
 #[repr(C)]
 #[derive(Clone, Copy)]
-pub struct Place {
+pub struct SegmentAt {
     /// The pass, from 0 on.
     pub pass: u32,
     /// The slice, from 0 to 3.
@@ -32,8 +32,8 @@ pub struct Place {
 }
 
 /// Writes columns 0 and 1 of each lane into the first slice, and returns 0. Returns -25 if the request has a
-/// fault, null pointers, threads and callbacks aside, or if `slice` has another length than a slice; nothing is
-/// then written. It allocates nothing.
+/// fault, null pointers, threads and callbacks aside, or if the length of `slice` is not the length of a slice; nothing
+/// is then written. It allocates nothing.
 #[unsafe(no_mangle)]
 pub extern "C" fn argon2_c_begin(
     request: &Request,
@@ -54,16 +54,16 @@ pub extern "C" fn argon2_c_begin(
     let Some(argon2) = hashing(request, secret, associated.len()) else {
         return INCORRECT_PARAMETER;
     };
-    if !are_lengths(output, pwd.len(), salt.len()) || slice.len() != slice_len(request) as usize {
+    if !are_lengths(output, pwd.len(), salt.len()) || slice.len() != slice_len(&argon2) {
         return INCORRECT_PARAMETER;
     }
     argon2.begin_slices(associated, pwd, salt, output as u32, slice);
     OK
 }
 
-/// Fills the segment `own` of a lane in a pass, and returns 0. `before` has the slices before it, and `after` the
-/// slices after it. Returns -25 if the request has a fault, null pointers, threads, callbacks and the lengths of
-/// output, password and salt aside, or if there is no such segment or one of the three has another length;
+/// Fills the segment `own` of a lane in a pass, and returns 0. `before` holds the slices before its slice, and `after`
+/// the slices after it. Returns -25 if the request has a fault, null pointers, threads, callbacks and the lengths of
+/// output, password and salt aside, or if the segment does not exist or a length of the three does not fit it;
 /// nothing is then written. It allocates nothing.
 #[unsafe(no_mangle)]
 pub extern "C" fn argon2_c_segment(
@@ -73,7 +73,7 @@ pub extern "C" fn argon2_c_segment(
     before: &[Words],
     own: &mut [Words],
     after: &[Words],
-    at: &Place,
+    at: &SegmentAt,
 ) -> i32
     ensures taken { (result ≡ OK) ↔ IsFaultless request.now 4 0 8 (length secret.now)
         (length associated.now)
@@ -86,7 +86,7 @@ pub extern "C" fn argon2_c_segment(
     let Some(argon2) = hashing(request, secret, associated.len()) else {
         return INCORRECT_PARAMETER;
     };
-    if !fits(request, before.len(), own.len(), after.len(), at) {
+    if !fits(&argon2, before.len(), own.len(), after.len(), at) {
         return INCORRECT_PARAMETER;
     }
     let segment = Segment {
@@ -99,8 +99,8 @@ pub extern "C" fn argon2_c_segment(
 }
 
 /// Writes the tag into `out`, and returns 0. `last` is the last slice. Returns -25 if the request has a fault, null
-/// pointers, threads, callbacks and the lengths of the inputs aside, or if `last` has another length than a slice;
-/// nothing is then written. It allocates nothing.
+/// pointers, threads, callbacks and the lengths of the inputs aside, or if the length of `last` is not the length
+/// of a slice; nothing is then written. It allocates nothing.
 #[unsafe(no_mangle)]
 #[tactic(auto, unfolding(argon2::specs::Rfc9106::xor_lanes))]
 pub extern "C" fn argon2_c_finish(request: &Request, last: &[Words], out: &mut [u8]) -> i32
@@ -114,7 +114,7 @@ pub extern "C" fn argon2_c_finish(request: &Request, last: &[Words], out: &mut [
     let Some(argon2) = hashing(request, &[], 0) else {
         return INCORRECT_PARAMETER;
     };
-    if !are_lengths(out.len(), 0, MIN_SALT_LEN) || last.len() != slice_len(request) as usize {
+    if !are_lengths(out.len(), 0, MIN_SALT_LEN) || last.len() != slice_len(&argon2) {
         return INCORRECT_PARAMETER;
     }
     argon2.finish_slices(last, out);
@@ -133,35 +133,30 @@ fn are_lengths(output: usize, pwd: usize, salt: usize) -> bool
         && salt <= MAX_SALT_LEN
 }
 
-/// How many blocks a segment has.
-pub fn segment_len(request: &Request) -> u32
-    requires { (1 ≤ request.now.lanes) × (request.now.lanes ≤ max_lanes) }
-    ensures value { result ≡ segment_length (request_context request.now [] []) }
-    ensures within { 4 * (request.now.lanes * result) ≤ request.now.m_cost }
+// The number of blocks of a segment.
+fn segment_len(argon2: &Argon2<'_>) -> usize
+    ensures value { result ≡ segment_length (context_of argon2.now) }
 {
-    request.m_cost / (4 * request.lanes)
+    argon2.params().lane_length() as usize / 4
 }
 
-/// How many blocks a slice has.
-pub fn slice_len(request: &Request) -> u32
-    requires { (1 ≤ request.now.lanes) × (request.now.lanes ≤ max_lanes) }
-    ensures value { result ≡ slice_length (request_context request.now [] []) }
-    ensures within { 4 * result ≤ request.now.m_cost }
+// The number of blocks of a slice.
+fn slice_len(argon2: &Argon2<'_>) -> usize
+    ensures value { result ≡ slice_length (context_of argon2.now) }
+    ensures small { 4 * result < 2 ^ 32 }
 {
-    request.lanes * segment_len(request)
+    argon2.params().block_count() / 4
 }
 
-// Whether there is such a segment, and these are the lengths of the slices before it, of the segment, and of
-// the slices after it.
-fn fits(request: &Request, before: usize, own: usize, after: usize, at: &Place) -> bool
-    requires { (1 ≤ request.now.lanes) × (request.now.lanes ≤ max_lanes) }
-    ensures { IsTrue result ↔ AreLengths (request_context request.now [] []) at.now.slice at.now.lane before
+// Whether the segment exists, and these are the lengths of the slices before its slice, of the segment, and of the slices after.
+fn fits(argon2: &Argon2<'_>, before: usize, own: usize, after: usize, at: &SegmentAt) -> bool
+    ensures { IsTrue result ↔ AreLengths (context_of argon2.now) at.now.slice at.now.lane before
         own after }
 {
-    let blocks = slice_len(request);
+    let blocks = slice_len(argon2);
     at.slice < 4
-        && at.lane < request.lanes
-        && before == (at.slice * blocks) as usize
-        && own == segment_len(request) as usize
-        && after == ((3 - at.slice) * blocks) as usize
+        && at.lane < argon2.params().p_cost()
+        && before == at.slice as usize * blocks
+        && own == segment_len(argon2)
+        && after == (3 - at.slice) as usize * blocks
 }

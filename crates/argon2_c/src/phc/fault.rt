@@ -1,17 +1,19 @@
 //! The codes of the faults of texts and of parameters.
 
-ghost use Rattle.std.specs.Prelude.{◌≡◌};
+ghost use Rattle.std.specs.Prelude.{◌≡◌, ◌≢◌};
 ghost use Rattle.argon2_base.specs.Error.{fault_of};
-ghost use Rattle.argon2_c.specs.PhcReading.{param_code, text_code};
+ghost use Rattle.argon2_c.specs.PhcFaults.{bound_code, param_code, text_code};
 ghost use Rattle.argon2_c.specs.PhcRequests.{error_code};
 
 use crate::code::*;
+use argon2::bound::BoundError;
 use argon2::error::Error;
 use argon2::error::password_hash::Error as TextError;
 
 /// The code of a fault of a text.
 pub fn text_code(error: &TextError) -> i32
-    ensures { result ≡ text_code (fault_of error.now) }
+    ensures value { result ≡ text_code (fault_of error.now) }
+    ensures refuses { result ≢ OK }
 {
     match error {
         TextError::Algorithm => NO_ALGORITHM,
@@ -25,7 +27,8 @@ pub fn text_code(error: &TextError) -> i32
 
 // The code of a parameter that is not valid.
 fn param_code(name: &str) -> i32
-    ensures { result ≡ param_code name.now }
+    ensures value { result ≡ param_code name.now }
+    ensures refuses { result ≢ OK }
 {
     match name {
         "m" => TEXT_MEMORY,
@@ -33,6 +36,17 @@ fn param_code(name: &str) -> i32
         "p" => TEXT_LANES,
         "keyid" => TEXT_KEYID,
         _ => TEXT_DATA,
+    }
+}
+
+/// The code of the error with which a bound refuses a text.
+pub fn bound_code(error: &BoundError) -> i32
+    ensures value { result ≡ bound_code error.now }
+    ensures refuses { result ≢ OK }
+{
+    match error {
+        BoundError::TooExpensive => ABOVE_BOUND,
+        BoundError::Refused(error) => text_code(error),
     }
 }
 

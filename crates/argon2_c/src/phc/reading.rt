@@ -1,4 +1,4 @@
-//! A text of the grammar, from bytes.
+//! Reading a text of the grammar from bytes.
 
 ghost use Rattle.std.specs.Prelude.{◌≡◌, IfSome, IsSomeAnd};
 ghost use Rattle.argon2_base.specs.PhcFields.{phc_of};

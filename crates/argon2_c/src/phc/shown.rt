@@ -1,4 +1,4 @@
-//! What a text shows, and whether it is to be renewed.
+//! What a text shows.
 
 ghost use Rattle.std.specs.Prelude.{◌≡◌, ◌≤◌, ◌-◌, ◌++◌, [], Ok, Err, length, replicate, unwrap_or};
 ghost use Rattle.argon2_base.specs.Error.{Fault};
@@ -6,39 +6,37 @@ ghost use Rattle.argon2_base.specs.PhcFields.{phc_of};
 ghost use Rattle.argon2_base.specs.PhcText.{Phc, IsPhcText, field, fields_text, version_text};
 ghost use Rattle.argon2.specs.Settings.{AreValid, SettingsValue};
 ghost use Rattle.argon2.specs.StoredTexts.{settings_value, shown_settings};
-ghost use Rattle.argon2_c.specs.PhcReading.{ShowsFields, ShowsNoSettings, ShowsSettings, is_below, is_wanted, renewal_code, show_code};
+ghost use Rattle.argon2_c.specs.PhcShown.{ShowsFields, ShowsNoSettings, ShowsSettings, show_code};
 
 use super::fault::text_code;
 use super::reading::read;
-use crate::code::{BELOW, CURRENT, OK, OTHER, TEXT_INVALID};
-use crate::request::Request;
+use crate::code::{OK, TEXT_INVALID};
 use argon2::PasswordHash;
 use argon2::byte_list::ByteList;
 use argon2::password_hash::Settings;
-use argon2::phc::are_equal;
 use itoa::Buffer;
 
 /// What a text shows. The bytes after each value are 0.
 #[repr(C)]
 #[derive(Clone, Copy)]
 pub struct PhcShown {
-    /// The bytes of the identifier.
+    /// The length of the identifier.
     pub name_len: u32,
     /// 1 if the text has a version, else 0.
     pub has_version: u32,
     /// The version that the text has, or 0.
     pub text_version: u32,
-    /// Where the list of parameters begins, or 0 if there is none.
+    /// The index at which the list of parameters begins, or 0 if the text has no list.
     pub params_at: u32,
-    /// The bytes of the list of parameters.
+    /// The length of the list of parameters.
     pub params_len: u32,
-    /// The bytes of the salt, 0 if there is none.
+    /// The length of the salt, 0 if the text has no salt.
     pub salt_len: u32,
-    /// The bytes of the hash, 0 if there is none.
+    /// The length of the hash, 0 if the text has no hash.
     pub output_len: u32,
     /// The variant.
     pub algorithm: u32,
-    /// The version, 16 if the text has none.
+    /// The version, 16 if the text has no version.
     pub version: u32,
     /// The memory cost.
     pub m_cost: u32,
@@ -46,9 +44,9 @@ pub struct PhcShown {
     pub t_cost: u32,
     /// The number of lanes.
     pub p_cost: u32,
-    /// The bytes of the key identifier.
+    /// The length of the key identifier.
     pub keyid_len: u32,
-    /// The bytes of the associated data.
+    /// The length of the associated data.
     pub associated_len: u32,
     /// The salt.
     pub salt: [u8; 48],
@@ -65,8 +63,8 @@ pub struct PhcShown {
 /// # Errors
 /// The first of these that holds:
 /// - -80: the text is outside the grammar. `shown` is then as before.
-/// - the code of the first fault of the text's parameters, its algorithm and its version. `shown` is then what
-///   a text of the grammar shows, and its members for settings are 0.
+/// - the code of the first fault of the text's parameters, its algorithm and its version. `shown` then holds the fields
+///   of the text, and its members for settings are 0.
 #[unsafe(no_mangle)]
 pub extern "C" fn argon2_c_phc_show(text: &[u8], shown: &mut PhcShown) -> i32
     ensures said { (v : Phc) → IsPhcText text.now v
@@ -105,7 +103,7 @@ fn show(hash: &PasswordHash, shown: &mut PhcShown) -> i32
     }
 }
 
-// What the fields of a text show.
+// The fields of a text, without settings.
 fn fields(hash: &PasswordHash) -> PhcShown
     ensures fields { ShowsFields (phc_of hash.now) result }
     ensures no_settings { ShowsNoSettings result }
@@ -145,7 +143,7 @@ fn fields(hash: &PasswordHash) -> PhcShown
     }
 }
 
-// The bytes of the field of a version.
+// The length of the field of a version.
 fn version_len(version: Option<u32>) -> u32
     ensures value { result ≡ length (fields_text (field version_text version)) }
     ensures small { result ≤ 13 }
@@ -156,7 +154,7 @@ fn version_len(version: Option<u32>) -> u32
     }
 }
 
-// The bytes of the salt of a text.
+// The bytes of the salt of a text, none if it has no salt.
 fn salt_of(hash: &PasswordHash) -> &[u8]
     ensures value { result.now ≡ unwrap_or (phc_of hash.now).salt [] }
     ensures fits { length result.now ≤ 48 }
@@ -167,8 +165,8 @@ fn salt_of(hash: &PasswordHash) -> &[u8]
     }
 }
 
-// The bytes of the hash of a text.
-fn output_of(hash: &PasswordHash) -> &[u8]
+/// The bytes of the hash of a text, none if it has no hash.
+pub fn output_of(hash: &PasswordHash) -> &[u8]
     ensures value { result.now ≡ unwrap_or (phc_of hash.now).hash [] }
     ensures fits { length result.now ≤ 64 }
 {
@@ -178,7 +176,7 @@ fn output_of(hash: &PasswordHash) -> &[u8]
     }
 }
 
-// A list of bytes that fit.
+// A list of bytes, which fit into it.
 fn list<const N: usize>(bytes: &[u8]) -> ByteList<N>
     requires { length bytes.now ≤ N }
     ensures bytes { result.bytes ≡ bytes.now ++ replicate (N - length bytes.now) 0 }
@@ -190,7 +188,7 @@ fn list<const N: usize>(bytes: &[u8]) -> ByteList<N>
     list
 }
 
-/// What a text shows that has these settings.
+/// The fields of a text, and its settings.
 pub fn with_settings(hash: &PasswordHash, settings: &Settings) -> PhcShown
     ensures fields { ShowsFields (phc_of hash.now) result }
     ensures settings { ShowsSettings (settings_value settings.now) result }
@@ -213,89 +211,4 @@ pub fn with_settings(hash: &PasswordHash, settings: &Settings) -> PhcShown
     shown.keyid = keyid_bytes;
     shown.associated = associated_bytes;
     shown
-}
-
-/// Whether a text is to be renewed: 2 if its memory, passes, lanes, version or the length of its hash is below
-/// what is wanted, else 0 if it shows exactly what is wanted, else 1. A text without a hash has one of no bytes.
-///
-/// # Errors
-/// The first of these that holds:
-/// - -80: the text is outside the grammar.
-/// - the code of the first fault of the text's parameters, its algorithm and its version.
-#[unsafe(no_mangle)]
-pub extern "C" fn argon2_c_phc_renewal(
-    wanted: &Request,
-    output: usize,
-    keyid: &[u8],
-    associated: &[u8],
-    text: &[u8],
-) -> i32
-    ensures said { (v : Phc) → IsPhcText text.now v
-        → result ≡ renewal_code wanted.now output keyid.now associated.now v }
-    ensures unsaid { ((v : Phc) → IsPhcText text.now v → ⊥) → result ≡ TEXT_INVALID }
-{
-    match read(text) {
-        Some(hash) => renewal(wanted, output, keyid, associated, &hash),
-        None => TEXT_INVALID,
-    }
-}
-
-// Whether a text is to be renewed.
-fn renewal(
-    wanted: &Request,
-    output: usize,
-    keyid: &[u8],
-    associated: &[u8],
-    hash: &PasswordHash,
-) -> i32
-    ensures { result
-        ≡ renewal_code wanted.now output keyid.now associated.now (phc_of hash.now) }
-{
-    let shown = match Settings::try_from(hash) {
-        Ok(settings) => settings,
-        Err(error) => return text_code(&error),
-    };
-    let len = output_of(hash).len();
-    if is_below(wanted, output, &shown, len) {
-        return BELOW;
-    }
-    if is_wanted(wanted, output, keyid, associated, &shown, len) {
-        return CURRENT;
-    }
-    OTHER
-}
-
-// Whether something is below what is wanted.
-fn is_below(wanted: &Request, output: usize, shown: &Settings, hash: usize) -> bool
-    ensures { result ≡ is_below wanted.now output (settings_value shown.now) hash }
-{
-    let params = &shown.params;
-    params.m_cost() < wanted.m_cost
-        || params.t_cost() < wanted.t_cost
-        || params.p_cost() < wanted.lanes
-        || hash < output
-        || u32::from(shown.version) < wanted.version
-}
-
-// Whether all is as wanted.
-fn is_wanted(
-    wanted: &Request,
-    output: usize,
-    keyid: &[u8],
-    associated: &[u8],
-    shown: &Settings,
-    hash: usize,
-) -> bool
-    ensures { result
-        ≡ is_wanted wanted.now output keyid.now associated.now (settings_value shown.now) hash }
-{
-    let params = &shown.params;
-    shown.algorithm as u32 == wanted.algorithm
-        && u32::from(shown.version) == wanted.version
-        && params.m_cost() == wanted.m_cost
-        && params.t_cost() == wanted.t_cost
-        && params.p_cost() == wanted.lanes
-        && hash == output
-        && are_equal(params.keyid(), keyid)
-        && are_equal(params.data(), associated)
 }

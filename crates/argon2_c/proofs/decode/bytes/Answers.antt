@@ -10,11 +10,11 @@ use Rattle.argon2_base.specs.Texts.{IsBytes, strict_base64}
 use Rattle.argon2_base.proofs.phc_lemmas.Base64Lemmas.{length-strict_base64, strict_base64_decoded, strict_base64_unique, strict_base64_never_refused}
 use Rattle.argon2_c.proofs.decode.bytes.Goals as goal
 
--- what a text is decoded to is at the front
-is_over : (n : ℕ) (s old new : List ℕ) → IsBytes s → IsBytes new → length new ≡ length old
+-- the bytes that strict Base64 is decoded to are written over the beginning of the room
+IsDecodedInto-strict : (n : ℕ) (s old new : List ℕ) → IsBytes s → IsBytes new → length new ≡ length old
     → IsDecodedInto standard_no_pad s n old new
     → IsBytes (take n new) × (s ≡ strict_base64 (take n new)) × (n ≡ length (take n new)) × IsWrittenOver (take n new) old new
-is_over n s old new text bytes same into =
+IsDecodedInto-strict n s old new text bytes same into =
     let long : length (take n new) ≡ n = length-take-le n new (omega (arith, into.2)) in
     let parts = take-append-drop n new in (
       front_bytes (take n new) (drop n new) (subst IsBytes (sym parts) bytes),
@@ -26,7 +26,7 @@ is_over n s old new text bytes same into =
 pub returns-in-Ok-clause-found : goal.returns-in-Ok-clause-found
 returns-in-Ok-clause-found c =
     let new = c.decode_slice_unchecked.new.output in
-    let over = is_over c.in-Ok.n c.args.text.now c.args.out.now new (λ i. omega (arith, c.type_inv.text i))
+    let over = IsDecodedInto-strict c.in-Ok.n c.args.text.now c.args.out.now new (λ i. omega (arith, c.type_inv.text i))
     (λ i. omega (arith, c.type_inv.out i)) c.decode_slice_unchecked.auto.output
     (rw c.as_bytes.ensures.value at c.in-Ok.ensures.ok) in
     (take c.in-Ok.n new, over.0, over.1, over.2, over.3)

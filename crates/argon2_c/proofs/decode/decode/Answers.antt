@@ -4,10 +4,11 @@ use Rattle.std.specs.Str.{IsUtf8}
 use Rattle.argon2.specs.Settings.{algorithm_name, algorithm_number}
 use Rattle.argon2.specs.declared.algorithm.Algorithm.{Algorithm}
 use Rattle.argon2_c.specs.Texts.{IsSaid, Said, name_numbered, said_of}
-use Rattle.argon2_c.proofs.Appending.{put_behind}
+use Rattle.argon2_c.proofs.Appending.{IsWrittenOver-append}
 use Rattle.argon2_c.proofs.Utf8.{IsUtf8-spelling}
 use Rattle.argon2_c.proofs.decode.decode.Goals as goal
 
+-- the name of a variant is the name of its number
 algorithm_name-numbered : (algorithm : Algorithm) → algorithm_name algorithm ≡ name_numbered (algorithm_number algorithm)
 algorithm_name-numbered algorithm = grind arith
 
@@ -37,7 +38,7 @@ returns-clause-found c =
       v,
       (said, text),
       record { version = c.unwrap_or.ensures; m_cost = refl; t_cost = refl; lanes = refl; salt = salt.3; tag = tag.3 },
-      put_behind n (length c.bytes.new.out - n) c.bytes.new.out c.bytes-2.new.out tag.0 salt.0 c.args.room.now
+      IsWrittenOver-append n (length c.bytes.new.out - n) c.bytes.new.out c.bytes-2.new.out tag.0 salt.0 c.args.room.now
           refl (sym salt.3) salt.4 tag.4,
     )
 
@@ -56,6 +57,6 @@ returns-clause-only c = λ v says.
         salt = salt.0;
         tag = tag.0;
       },
-      put_behind n (length c.bytes.new.out - n) c.bytes.new.out c.bytes-2.new.out v.tag v.salt c.args.room.now
+      IsWrittenOver-append n (length c.bytes.new.out - n) c.bytes.new.out c.bytes-2.new.out v.tag v.salt c.args.room.now
           refl (sym salt.0) salt.1 tag.1,
     )

@@ -8,19 +8,19 @@ use Rattle.argon2_c.proofs.encode.argon2_c_encode.Goals as goal
 
 pub returns-then-text_len-out-clause-answer : goal.returns-then-text_len-out-clause-answer
 returns-then-text_len-out-clause-answer c =
-    let long = length-text _ _ c.args.salt.now c.args.tag.now c.front-front.ensures in
+    let long = length-text _ _ c.args.salt.now c.args.tag.now c.prefix-prefix.ensures in
     grind (arith, nat_tests, long, ap length c.as_str.ensures.value)
 
 pub returns-clause-answer : goal.returns-clause-answer
 returns-clause-answer c =
-    let long = length-text _ _ c.args.salt.now c.args.tag.now c.front-front.ensures in
+    let long = length-text _ _ c.args.salt.now c.args.tag.now c.prefix-prefix.ensures in
     grind (arith, nat_tests, long, ap length c.as_str.ensures.value)
 
 pub returns-clause-written : goal.returns-clause-written
 returns-clause-written c = λ _.
     let old = c.args.out.now in
     let front = c.as_bytes.result.now in
-    let begins = rw c.in-Some.ensures.found at c.front-front.ensures in
+    let begins = rw c.in-Some.ensures.found at c.prefix-prefix.ensures in
     let salt = strict_base64 c.args.salt.now in
     let tag = strict_base64 c.args.tag.now in
     let w1 = c.put-at.ensures.appends [] old refl refl in

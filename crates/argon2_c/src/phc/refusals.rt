@@ -1,34 +1,31 @@
-//! Parameters of a C caller: why they are refused, and the text of a hash.
+//! Why the parameters of a C caller are refused, and the lengths for a text or for a raw tag.
 
-ghost use Rattle.std.specs.Prelude.{◌≡◌, ◌≢◌, ◌++◌, ◌∷◌, None, unwrap_or, suc, length, drop};
+ghost use Rattle.std.specs.Prelude.{◌≡◌, unwrap_or};
 ghost use Rattle.std.specs.Option.{option_or};
-ghost use Rattle.argon2_base.specs.PhcFields.{phc_of};
-ghost use Rattle.argon2_base.specs.PhcText.{phc_text};
 ghost use Rattle.argon2.specs.Refusals.{first_of};
-ghost use Rattle.argon2_c.specs.PhcRequests.{length_set, making_faults, params_refusal, phc_encode_code, tag_faults, value_with};
+ghost use Rattle.argon2_c.specs.PhcRequests.{length_set, making_faults, params_refusal, tag_faults};
 
 use super::fault::error_code;
 use crate::code::*;
-use crate::encode::put;
-use crate::hash::variant;
+use crate::number::{variant, version};
 use crate::request::Request;
-use argon2::phc::{Output, ParamsString, Salt};
+use argon2::phc::{Output, Salt};
 use argon2::{
     AssociatedData, KeyId, MAX_AD_LEN, MAX_PWD_LEN, MAX_SALT_LEN, MAX_SECRET_LEN, MIN_SALT_LEN,
-    Params, ParamsBuilder, PasswordHash,
+    Params,
 };
 
 /// The lengths of a C caller's parameters.
 #[repr(C)]
 #[derive(Clone, Copy)]
 pub struct PhcLengths {
-    /// The bytes of the key identifier.
+    /// The length of the key identifier.
     pub keyid: usize,
-    /// The bytes of the associated data.
+    /// The length of the associated data.
     pub associated: usize,
-    /// The bytes of the secret.
+    /// The length of the secret.
     pub secret: usize,
-    /// The bytes of outputs, if that is set.
+    /// The length of outputs, if it is set.
     pub output: usize,
     /// Whether the length of outputs is set.
     pub has_output: bool,
@@ -45,8 +42,8 @@ fn output_of(lengths: &PhcLengths) -> Option<usize>
     }
 }
 
-// Why parameters are refused. If `output` is set, outputs have this length.
-fn params_refusal(
+/// Why parameters are refused. If `output` is set, outputs have this length.
+pub fn params_refusal(
     request: &Request,
     output: Option<usize>,
     most_associated: usize,
@@ -64,7 +61,7 @@ fn params_refusal(
         Some(AD_TOO_LONG)
     } else if variant(request.algorithm).is_none() {
         Some(NO_ALGORITHM)
-    } else if request.version != 16 && request.version != 19 {
+    } else if version(request.version).is_none() {
         Some(NO_VERSION)
     } else if secret > MAX_SECRET_LEN {
         Some(SECRET_TOO_LONG)
@@ -112,8 +109,8 @@ pub extern "C" fn argon2_c_text_refusal(
     }
 }
 
-// Why no text is made, by the lengths of its salt and its hash and the length of the password.
-fn text_refusal(salt: usize, hash: usize, pwd: usize) -> Option<i32>
+/// Why no text is made, by the lengths of its salt and its hash and the length of the password.
+pub fn text_refusal(salt: usize, hash: usize, pwd: usize) -> Option<i32>
     ensures { result ≡ first_of (making_faults salt hash pwd) }
 {
     if salt < Salt::MIN_LENGTH {
@@ -170,78 +167,5 @@ fn tag_refusal(output: Option<usize>, out: usize, pwd: usize, salt: usize) -> Op
         Some(SALT_TOO_LONG)
     } else {
         None
-    }
-}
-
-/// Writes the text of parameters with this salt and this hash, and a zero byte after it, and returns 0.
-///
-/// # Errors
-/// The first of these that holds; `out` is then as before:
-/// - the code of the first fault of the parameters, and then of the lengths, as `argon2_c_text_refusal` has them.
-/// - -72: there is too little room.
-#[unsafe(no_mangle)]
-pub extern "C" fn argon2_c_phc_encode(
-    request: &Request,
-    keyid: &[u8],
-    associated: &[u8],
-    salt: &[u8],
-    hash: &[u8],
-    out: &mut [u8],
-) -> i32
-    ensures answer { result ≡ phc_encode_code request.now keyid.now associated.now salt.now hash.now
-        (length out.old) }
-    ensures written { let text = phc_text (value_with request.now keyid.now associated.now salt.now hash.now) in
-        result ≡ OK → out.new ≡ text ++ 0 ∷ drop (suc (length text)) out.old }
-    ensures same { result ≢ OK → out.new ≡ out.old }
-{
-    let most = AssociatedData::MAX_LEN;
-    if let Some(code) = params_refusal(request, None, most, keyid.len(), associated.len(), 0) {
-        return code;
-    }
-    if let Some(code) = text_refusal(salt.len(), hash.len(), 0) {
-        return code;
-    }
-    let text = value_of(request, keyid, associated, salt, hash).text();
-    let text = text.as_str().as_bytes();
-    if text.len() >= out.len() {
-        return ROOM_TOO_SHORT;
-    }
-    let at = put(text, out, 0);
-    put(b"\0", out, at);
-    OK
-}
-
-// The value of parameters, a salt and a hash, none of which is refused.
-fn value_of(
-    request: &Request,
-    keyid: &[u8],
-    associated: &[u8],
-    salt: &[u8],
-    hash: &[u8],
-) -> PasswordHash
-    requires params { params_refusal request.now None 32 (length keyid.now) (length associated.now) 0
-        ≡ None }
-    requires text { first_of (making_faults (length salt.now) (length hash.now) 0) ≡ None }
-    ensures { phc_of result ≡ value_with request.now keyid.now associated.now salt.now hash.now }
-{
-    let mut builder = ParamsBuilder::new();
-    builder.m_cost(request.m_cost);
-    builder.t_cost(request.t_cost);
-    builder.p_cost(request.lanes);
-    builder.keyid(KeyId::new(keyid).unwrap());
-    builder.data(AssociatedData::new(associated).unwrap());
-    let params = builder.build().unwrap();
-    let Ok(params) = ParamsString::try_from(&params) else {
-        unreachable!();
-    };
-    let (Ok(salt), Ok(hash)) = (Salt::new(salt), Output::new(hash)) else {
-        unreachable!();
-    };
-    PasswordHash {
-        algorithm: variant(request.algorithm).unwrap().ident(),
-        version: Some(request.version),
-        params,
-        salt: Some(salt),
-        hash: Some(hash),
     }
 }

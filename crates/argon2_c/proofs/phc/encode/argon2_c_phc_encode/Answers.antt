@@ -2,7 +2,7 @@ use Rattle.std.proofs.Common.{◌≡◌, ◌++◌, ◌+◌, List, ℕ, [], ◌�
 use Rattle.std.specs.Prelude.{drop}
 use Rattle.std.proofs.lemmas.List.{append_assoc}
 use Rattle.argon2_base.specs.PhcText.{phc_text}
-use Rattle.argon2_c.proofs.phc.making.argon2_c_phc_encode.Goals as goal
+use Rattle.argon2_c.proofs.phc.encode.argon2_c_phc_encode.Goals as goal
 
 pub returns-clause-written : goal.returns-clause-written
 returns-clause-written c = λ _.
