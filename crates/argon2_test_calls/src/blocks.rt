@@ -1,4 +1,4 @@
-//! Calls on BLAKE2b and blocks. A block is 1024 bytes; a digest is that of BLAKE2b of 8 bytes.
+//! Calls on BLAKE2b and blocks. A block is 1024 bytes; a digest is the BLAKE2b digest of 8 bytes.
 
 ghost use Rattle.std.specs.Prelude.{◌≤◌, length};
 
@@ -7,7 +7,7 @@ use crate::call::Call;
 use crate::plain;
 use argon2::blake2b::Blake2b;
 use argon2::blake2b_long::blake2b_long;
-use argon2::block::{Words, mix_words};
+use argon2::block::Words;
 use argon2::{Block, Work};
 use std::convert::AsSlice;
 use std::slice;
@@ -124,15 +124,22 @@ fn words(block: &Block) -> Words {
     words
 }
 
+// The block that `put_mixed` makes of two.
+fn put_mixed(x: &Block, y: &Block) -> Block {
+    let (mut xor, mut block) = (*x, Block::new());
+    xor ^= y;
+    block.put_mixed(&xor, false, &mut Work::new());
+    block
+}
+
 // How many pairs of blocks, each with each of the others, both calls that mix and the plain body mix alike.
 pub(crate) fn alike_pairs(blocks: &[Block], others: &[Block]) -> u32 {
     let mut count: u32 = 0;
     for x in blocks {
         for y in others {
-            let (left, right) = (words(x), words(y));
             let mixed = words(&Block::mix(x, y, &mut Work::new()));
-            let is_plain = mixed == plain::mix(&left, &right);
-            let is_alike = is_plain && mixed == mix_words(&left, &right, &mut Work::new());
+            let is_plain = mixed == plain::mix(&words(x), &words(y));
+            let is_alike = is_plain && mixed == words(&put_mixed(x, y));
             count = count.wrapping_add(is_alike as u32);
         }
     }

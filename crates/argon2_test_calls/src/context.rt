@@ -1,5 +1,5 @@
 //! What is hashed under: a line `context NAME ALGORITHM VERSION M T P LENGTH`, and then any of `secret=BYTES`, `data=BYTES`
-//! and `keyid=BYTES`, names it for the lines of the whole input. The length is that of the output, or `none`. The answer is
+//! and `keyid=BYTES`, names it for the lines of the whole input. The length is the output's length, or `none`. The answer is
 //! `Ok`, or the error of the call that makes it. `default` is `Argon2::default()`.
 
 use crate::answer::Answer;

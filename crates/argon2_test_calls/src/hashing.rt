@@ -1,10 +1,10 @@
-//! Calls on hashing. They take `CONTEXT PASSWORD SALT LENGTH`: the name of a context, two lists of bytes, and the length of the
-//! output, whose bytes are ff before the call. They answer the tag, or `Ok` if they write none, or the error and whether the
+//! Calls on hashing. Their words are `CONTEXT PASSWORD SALT LENGTH`: the name of a context, two lists of bytes, and the length of
+//! the output, whose bytes are ff before the call. They answer the tag, or `Ok` if they write none, or the error and whether the
 //! output is the same.
 //!
-//! A call on lent memory answers also with the digest of the blocks that are filled; for steps and watched calls, that of the
-//! places of references as 32-bit numbers; and whether the other blocks are the same. After an error it says whether all
-//! blocks are.
+//! A call on lent memory answers also with the digest of the blocks that are filled, and whether the other blocks are the same.
+//! Steps and watched calls answer with the digest of the places of references as 32-bit numbers, too. After an error the answer
+//! says whether all blocks are the same.
 
 ghost use Rattle.std.specs.Prelude.{◌≡◌, ◌*◌, IfSome};
 ghost use Rattle.argon2.specs.Argon2.{context_of};
@@ -224,7 +224,7 @@ fn step_pass(
     turns: [&str; 4],
     positions: &mut [u32],
 ) -> bool {
-    let segment = argon2.params().lane_length() / 4;
+    let segment = argon2.params().segment_length();
     let mut is_done = true;
     for (slice, turns) in (0..4u32).zip(turns) {
         let mut columns = [segment.wrapping_mul(slice); 10];
@@ -308,7 +308,7 @@ fn lengths(argon2: &Argon2<'_>) -> Option<(usize, usize)>
         × (both.1 ≡ slice_length (context_of argon2.now))) }
 {
     let params = argon2.params();
-    let segment = (params.lane_length() / 4) as usize;
+    let segment = params.segment_length() as usize;
     let slice = (params.p_cost() as usize).checked_mul(segment)?;
     Some((segment, slice))
 }

@@ -6,14 +6,13 @@ use crate::call::Call;
 use crate::drawn::Drawn;
 use crate::{context, inputs, own_context};
 use argon2::error::{kdf, password_hash};
-use argon2::login::{LoggedIn, Target};
 use argon2::password_hash::{Result, Settings, Stored};
 use argon2::phc::{Ident, Output, ParamsString, Salt};
 use argon2::{
     Algorithm, AssociatedData, B64Error, CustomizedPasswordHasher, Error, KeyId, Params,
     ParamsBuilder, PasswordHash, PasswordHasher, PasswordVerifier, Version,
 };
-use argon2_policy::Policy;
+use argon2_policy::{Denial, LoggedIn, Policy};
 use std::fmt::Debug;
 use std::result::Result as Outcome;
 
@@ -59,6 +58,14 @@ fn make_of_params(call: &Call<'_, '_>, answer: &Answer) -> bool {
         "Params::new" => {
             let (m, t, p) = (call.count(1), call.count(2), call.count(3));
             show_params(answer, Params::new(m, t, p, call.number(4)));
+        }
+        // `M T P LENGTH`: the length of the hash in a text, and whether a text has room for that hash.
+        "Params::hash_len" => {
+            let (m, t, p) = (call.count(1), call.count(2), call.count(3));
+            if let Some(params) = answer.ok(Params::new(m, t, p, call.number(4))) {
+                answer.display(params.hash_len());
+                answer.display(params.hash_fits_text());
+            }
         }
         // What they say, and their text.
         "Params::default" => {
@@ -309,8 +316,7 @@ fn make_of_passwords(call: &Call<'_, '_>, answer: &Answer) -> bool {
     true
 }
 
-// A call on a bound, `M T P`, on a store's target, `CONTEXT`, or on a policy, which `CONTEXT M T P` make; and then the
-// call's values.
+// A call on a bound, `M T P`, or on a policy, which `CONTEXT M T P` make; and then the call's values.
 fn make_of_bounds(call: &Call<'_, '_>, answer: &Answer) -> bool {
     match call.name {
         // `.. TEXT`: the blocks.
@@ -341,40 +347,10 @@ fn make_of_bounds(call: &Call<'_, '_>, answer: &Answer) -> bool {
             let (argon2, password, text) = (call.context(4), call.bytes(5), call.word(6));
             answer.display_done(call.bound(1).verify(answer.alloc, argon2, password, text));
         }
-        name if name.starts_with("Target::") => make_of_target(call, answer),
         name if name.starts_with("Policy::") => make_of_policy(call, answer),
         _ => return false,
     }
     true
-}
-
-fn make_of_target(call: &Call<'_, '_>, answer: &Answer) {
-    if let Some(target) = answer.ok(Target::new(own_context(call, 1))) {
-        match call.name {
-            "Target::new" => answer.display("Ok"),
-            _ => make_on_target(call, answer, &target),
-        }
-    }
-}
-
-// `.. GENERATOR PASSWORD`, and a text unless one is made.
-fn make_on_target(call: &Call<'_, '_>, answer: &Answer, target: &Target<'_>) {
-    let (mut rng, password, alloc) = (call.generator(2), call.bytes(3), answer.alloc);
-    if call.name == "Target::hash_password" {
-        answer.display_result(target.hash_password(alloc, &mut rng, password));
-        answer.display_drawn(&rng);
-    } else if let Some(value) = answer.ok(PasswordHash::new(call.str(4))) {
-        let Some(it) = answer.ok(Stored::try_from(&value)) else {
-            return;
-        };
-        match call.name {
-            "Target::verify" => answer.display_done(target.verify(alloc, password, &it)),
-            _ => {
-                let done = target.log_in(alloc, &mut rng, password, &it);
-                show_login(answer, done, &rng);
-            }
-        }
-    }
 }
 
 fn make_of_policy(call: &Call<'_, '_>, answer: &Answer) {
@@ -402,12 +378,12 @@ fn make_on_policy(call: &Call<'_, '_>, place: usize, answer: &Answer, policy: &P
             answer.display_drawn(&rng);
         }
         "Policy::change_password" => {
-            answer.display_result(policy.change_password(
-                &mut rng,
-                stored_or_none(call, 8),
-                password,
-                call.bytes(7),
-            ));
+            let stored = stored_or_none(call, 8);
+            let done = policy.change_password(&mut rng, stored, password, call.bytes(7));
+            answer.display_result(match done {
+                Ok(renewal) => Ok(renewal.fresh),
+                Err(denial) => Err(denial),
+            });
             answer.display_drawn(&rng);
         }
         _ => {
@@ -423,12 +399,15 @@ fn stored_or_none<'a>(call: &Call<'_, 'a>, place: usize) -> Option<&'a str> {
 }
 
 // What a login did, how many bytes it drew, and the fresh text.
-fn show_login<E: Debug + Drop>(answer: &Answer, done: Outcome<LoggedIn, E>, rng: &Drawn) {
+fn show_login(answer: &Answer, done: Outcome<LoggedIn<'_>, Denial>, rng: &Drawn) {
     match done {
-        Ok(LoggedIn { accepted, fresh }) => {
-            answer.debug(accepted);
+        Ok(done) => {
+            answer.debug(done.accepted());
             answer.display_drawn(rng);
-            answer.display_or_none(fresh);
+            match done {
+                LoggedIn::Renewed(renewal) => answer.display(renewal.fresh),
+                _ => answer.display("none"),
+            }
         }
         Err(e) => {
             answer.debug(e);

@@ -25,7 +25,7 @@ pub(crate) fn make(call: &Call<'_, '_>, answer: &Answer) -> bool {
     true
 }
 
-// Those of costs and their defaults, those of lengths and two that are recommended, and those of lengths in texts.
+// The limits and the defaults of costs, the limits of lengths with two recommended lengths, and the limits of lengths in texts.
 fn limits(answer: &Answer) {
     let costs = [
         [Params::MIN_M_COST, Params::MAX_M_COST],
