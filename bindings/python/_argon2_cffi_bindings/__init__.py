@@ -1,4 +1,4 @@
-"""What argon2-cffi imports, over the libargon2 beside it: `ffi`, and `lib` with what argon2.h and argon2_phc.h declare."""
+"""argon2-cffi imports `ffi` and `lib`. `lib` is the libargon2 in this folder, with what argon2.h and argon2_phc.h declare."""
 
 from pathlib import Path
 from typing import Any
@@ -9,7 +9,7 @@ __all__ = ["ffi", "lib"]
 
 
 def _load() -> Any:
-    """The library for this processor: the loader refuses one whose instructions it lacks, so the highest level is first."""
+    """Returns the library for this processor. The loader refuses a library of a higher level, so the highest level is first."""
     folder = Path(__file__).resolve().parent
     refusal = None
     for path in [*sorted(folder.glob("*/libargon2.so.1"), reverse=True), folder / "libargon2.so.1"]:

@@ -1,8 +1,10 @@
-"""Passwords under a secret and within a bound, by the functions of argon2_phc.h.
+"""Makes and verifies stored hashes under a secret and within a bound, by the functions of
+argon2_phc.h.
 
-A `PasswordHasher` has the parameters of new stored hashes, the secret key ("pepper"), and the bound
-of the stored hashes that it accepts. A stored hash is a PHC string in a str; each argument `text` is
-a stored hash. A password is bytes, or a str that stands for its bytes in UTF-8.
+A `PasswordHasher` contains the parameters of new stored hashes, the secret key ("pepper"), and the
+bound on the stored hashes that it accepts. A stored hash is a PHC string in a str, and its last
+field is the tag. Each argument `text` is a stored hash. A password is bytes, or a str, which means
+its bytes in UTF-8.
 
     from argon2_proved import Mismatch, PasswordHasher
 
@@ -13,12 +15,12 @@ a stored hash. A password is bytes, or a str that stands for its bytes in UTF-8.
     except Mismatch:
         ...  # the password is wrong
 
-What the library refuses is an `Error`, whose `name` says why; each function lists the names in the
-order in which it looks for them. A str that has no bytes in UTF-8 is a `ValueError`, which does not
-hold the str. A number that is negative or too large for the library is an `OverflowError`, and a
-password or a number of a wrong type is a `TypeError`. Objects may be used by several threads at
-once. Other threads run while a hash is made, and `max_memory` bounds what their hashes hold at
-once.
+If the library refuses a call, it raises an `Error`, whose `name` is the reason. Each function lists
+the names in the order in which it looks for them. A str that has no bytes in UTF-8 is a
+`ValueError`, which does not hold the str. A number that is negative or too large for the library is
+an `OverflowError`, and a password or a number of a wrong type is a `TypeError`. Several threads may
+use an object at once. Other threads run while a hash is made, and `max_memory` bounds how much
+memory their hashes hold at once.
 """
 
 from __future__ import annotations
@@ -69,12 +71,12 @@ class Algorithm(IntEnum):
 
 
 class Renewal(IntEnum):
-    """Whether a stored hash has other parameters than new ones. `CURRENT` is false, and the others are
-    true.
+    """Whether a stored hash has other parameters than new hashes. `CURRENT` is false, and the others
+    are true.
 
-    CURRENT: it has the same algorithm, version, costs, key identifier, data and length of the hash
-    OTHER: it has others, and none of them is below the wanted ones
-    BELOW: its memory, passes, lanes, version or length of the hash is below the wanted ones
+    CURRENT: it has the same algorithm, version, costs, key identifier, data and length of the tag
+    OTHER: it has other parameters, and none of them is below the wanted ones
+    BELOW: its memory, passes, lanes, version or length of the tag is below the wanted ones
     """
 
     CURRENT = 0
@@ -84,15 +86,16 @@ class Renewal(IntEnum):
 
 @dataclass(frozen=True)
 class Bound:
-    """The most that verifying a stored hash may cost, and the lengths of its hash.
+    """The most that verifying a stored hash may cost, and the lengths of its tag.
 
     memory_cost: the most memory in KiB
     time_cost: the most passes
     parallelism: the most lanes
-    min_hash_len, max_hash_len: the fewest and the most bytes of the hash
+    min_hash_len, max_hash_len: the fewest and the most bytes of the tag
 
-    The worst stored hash within the defaults takes 2 GiB and half a minute of a processor or more,
-    and twice that if an old secret is tried. A service sets what its own stored hashes need.
+    The most expensive stored hash within the defaults needs 2 GiB, and half a minute of a processor or
+    more. It needs twice that time if an old secret is tried. A service sets what its own stored hashes
+    need.
     """
 
     memory_cost: int = 2097152
@@ -113,7 +116,8 @@ class Parsed:
     parallelism: the lanes
     keyid: the key identifier, at most 8 bytes
     data: the associated data, at most 32 bytes
-    salt, hash: the bytes of both, each of which is empty if the stored hash has none
+    salt: the bytes of the salt, or no bytes if the stored hash has no salt
+    hash: the bytes of the tag, or no bytes if the stored hash has no tag
     """
 
     algorithm: Algorithm
@@ -136,7 +140,7 @@ def _must(code: int) -> None:
 
 
 def _bytes_of(value: str | bytes) -> bytes:
-    """The bytes of a value, those of a str in UTF-8. They are a copy of bytes that can change."""
+    """Returns the bytes of a value, which are UTF-8 if it is a str. They are a copy of bytes that can change."""
     if not isinstance(value, str):
         return bytes(memoryview(value))
     try:
@@ -148,19 +152,19 @@ def _bytes_of(value: str | bytes) -> bytes:
 
 
 def _buffer(value: str | bytes) -> Any:
-    """The bytes of a value, which are not copied if it is no str, and stay as long as what this returns."""
+    """Returns a buffer with the bytes of a value, which stay as long as the buffer. Only the bytes of a str are copied."""
     return _ffi.from_buffer(_bytes_of(value) if isinstance(value, str) else value)
 
 
 def _text(value: str) -> Any:
-    """A text for the library, which refuses all but ASCII."""
+    """Returns a buffer with a stored hash. The library refuses every character that is not ASCII."""
     if not isinstance(value, str):
         raise TypeError(f"a stored hash is a str, and not {type(value).__name__}")
     return _buffer(value.encode("utf-8", "surrogatepass"))
 
 
 def _structure(kind: str, **members: Any) -> Any:
-    """A structure of C, with its own size."""
+    """Returns a structure of C, which contains its own size."""
     return _ffi.new(f"{kind} *", {"size": _ffi.sizeof(kind), **members})
 
 
@@ -184,28 +188,27 @@ class PasswordHasher:
 
     time_cost: the passes of new stored hashes, at least 1
     memory_cost: their memory in KiB, at least 8 for each lane
-    parallelism: their lanes, from 1 to 16777215, which change the hash
-    hash_len: the bytes of their hash, from 4 to 64; `tag` also makes longer ones
+    parallelism: their lanes, from 1 to 16777215, which change the tag
+    hash_len: the bytes of their tag, from 4 to 64; the method `tag` also makes longer tags
     algorithm: their variant
     version: their version, 19 (0x13) or 16 (0x10)
-    secret: the secret key, which enters each hash, and which no stored hash shows
-    old_secret: the secret key under which a stored hash is tried that does not accept the password
-        under the secret, unless it is None. With no bytes, stored hashes without a secret are
-        accepted too
-    keyid: a key identifier of at most 8 bytes, which new stored hashes show, to name the secret for
-        example
-    data: associated data of at most 32 bytes, which enters the hash of new stored hashes, and which
+    secret: the secret key, which enters each tag, and which no stored hash shows
+    old_secret: a secret key, or None. If a stored hash does not accept the password under the secret,
+        it is tried under the old secret. An old secret of no bytes accepts stored hashes without a
+        secret
+    keyid: a key identifier of at most 8 bytes, for example of the secret. New stored hashes show it
+    data: associated data of at most 32 bytes, which enters the tag of new stored hashes, and which
         they show
-    bound: what a stored hash may cost that is verified
+    bound: what verifying a stored hash may cost
     threads: the most threads that fill the lanes of a hash; 0 is as many as lanes. They do not
-        change the hash
+        change the tag
     max_memory: the most KiB that the hashes of this object hold at once, in all threads. A hash
         waits until there is room for it, in the order of asking. A stored hash that asks for more
         than this is ABOVE_BOUND. This also sets M_MMAP_THRESHOLD of mallopt(3) for the whole
         process, because glibc otherwise keeps the freed memory of a hash for each thread, up to 32
         MiB
-    timeout: the seconds after which a hash that waits is `Busy`; it waits for any time if this is
-        None
+    timeout: the seconds after which a hash that waits is `Busy`. If this is None, a hash waits for
+        any time
 
     Secrets, the key identifier and the data are copied, so the caller may clear what it gave. The
     copies stay as long as this object.
@@ -234,9 +237,9 @@ class PasswordHasher:
         max_memory: int | None = None,
         timeout: float | None = None,
     ) -> None:
-        # (copies, so that these bytes stay if the caller clears or changes what is given)
+        # (these are copies, so they stay if the caller clears or changes the arguments)
         values = [_bytes_of(it) for it in (secret, b"" if old_secret is None else old_secret, keyid, data)]
-        # (what a structure of C points to is kept here)
+        # (the structures of C point to these buffers, so they are kept)
         self._held = [_buffer(it) for it in values]
         key, old, name, more = self._held
         self._params = _structure(
@@ -261,7 +264,7 @@ class PasswordHasher:
         self._memory = None if max_memory is None else Memory(max_memory, timeout)
 
     def hash(self, password: str | bytes, *, salt: bytes | None = None) -> str:
-        """Returns the stored hash of a password.
+        """Returns the hash of a password, to be stored.
 
         password: at most 4294967295 bytes
         salt: 8 to 48 bytes; if it is None, the system draws 16 bytes
@@ -271,7 +274,7 @@ class PasswordHasher:
             PASSWORD_TOO_LONG; NO_RANDOM; OUT_OF_MEMORY
         """
         given, text = _buffer(password), _ffi.new("char[]", _lib.ARGON2P_TEXT_SIZE)
-        # (the bytes of a value need not be as many as its items, and no bytes also have an address, so that no salt is drawn)
+        # (a value can have more bytes than items; an empty salt has an address too, so that the library draws none in its place)
         start = _ffi.from_buffer(b"" if salt is None else _bytes_of(salt))
         place = _ffi.NULL if salt is None else start
         with self._lent(self._params.m_cost):
@@ -299,10 +302,10 @@ class PasswordHasher:
     def log_in(self, text: str, password: str | bytes) -> str:
         """Verifies a password, and returns the stored hash to store from now on.
 
-        That is a new one if `text` accepted the password only under the old secret, or is weaker
-        than new ones (`is_weaker`). Otherwise it is `text`. It is also `text` if no new one can be
-        made, for example without memory: a password that is accepted never gets an error for that
-        reason.
+        This is a new hash if `text` accepted the password only under the old secret, or is weaker
+        than new hashes (`is_weaker`). Otherwise it is `text`. It is also `text` if no new hash can be
+        made, for example because the system has no memory. A password that is accepted never gets an
+        error for that reason.
 
         text, password: as in `verify`, which also lists the errors
         """
@@ -314,10 +317,10 @@ class PasswordHasher:
         return text
 
     def is_weaker(self, text: str) -> bool:
-        """Returns whether a stored hash is weaker than new ones.
+        """Returns whether a stored hash is weaker than new hashes.
 
         It is weaker if it has another algorithm, version, key identifier or data, a lower cost, or
-        a shorter hash. Higher costs and a longer hash do not count.
+        a shorter tag. Higher costs and a longer tag do not count.
 
         text: the stored hash
 
@@ -328,8 +331,8 @@ class PasswordHasher:
         return kind != self._kind or self.needs_rehash(text) == Renewal.BELOW
 
     def needs_rehash(self, text: str) -> Renewal:
-        """Returns whether a stored hash shows other parameters than new ones do. It does not show its
-        secret.
+        """Returns whether a stored hash shows other parameters than new hashes. A stored hash does not
+        show its secret.
 
         text: the stored hash
 
@@ -340,7 +343,7 @@ class PasswordHasher:
         return Renewal(answer[0])
 
     def tag(self, password: str | bytes, salt: bytes) -> bytes:
-        """Returns a hash of `hash_len` bytes without a stored hash, for example as a key.
+        """Returns only a tag, of `hash_len` bytes, for example as a key.
 
         password: at most 4294967295 bytes
         salt: 8 to 4294967295 bytes
@@ -355,19 +358,19 @@ class PasswordHasher:
         return bytes(out)
 
     def _is_by_old_secret(self, text: str, password: str | bytes) -> bool:
-        """Verifies, and returns whether the old secret accepted."""
+        """Verifies a stored hash, and returns whether the old secret accepted the password."""
         stored, given, answer = _text(text), _buffer(password), _ffi.new("int *")
         with self._lent(self._needed(stored)):
             _must(_lib.argon2p_verify(self._verifier, stored, len(stored), given, len(given), answer))
         return bool(answer[0])
 
     def _needed(self, stored: Any) -> int:
-        """The KiB that the library asks for to verify a text: none if the text is not valid or above the bound."""
+        """Returns the KiB that verifying a stored hash needs, or 0 if the stored hash is not valid or above the bound."""
         shown, most = _structure("argon2p_shown"), self._verifier
         is_read = _lib.argon2p_parse(stored, len(stored), shown) == _lib.ARGON2P_OK
         is_within = shown.m_cost <= most.m_cost and shown.t_cost <= most.t_cost and shown.p_cost <= most.p_cost
         return shown.m_cost if is_read and is_within else 0
 
     def _lent(self, size: int) -> ContextManager[None]:
-        """The context of a call that holds so many KiB, which waits until they are free if `max_memory` bounds them."""
+        """Returns the context of a call that holds `size` KiB. If `max_memory` bounds them, it waits until they are free."""
         return nullcontext() if self._memory is None or size == 0 else self._memory.lend(size)

@@ -1,4 +1,4 @@
-"""The memory that hashes hold at once."""
+"""Bounds the memory that hashes hold at once."""
 
 from __future__ import annotations
 
@@ -8,18 +8,18 @@ from collections import deque
 from contextlib import contextmanager
 from typing import Iterator
 
-# mallopt(3): from how many bytes on malloc maps memory for one request only, and gives it back when it is freed. glibc begins
-# with this number, and raises it up to 32 MiB as a program frees memory. Each thread then keeps the memory of its last hash.
+# From this many bytes on malloc maps memory for one request only, and gives it back when it is freed (mallopt(3)). glibc begins
+# with this number, and raises it up to 32 MiB as a program frees memory. Then each thread keeps the memory of its last hash.
 _M_MMAP_THRESHOLD = -3
 _FIRST_THRESHOLD = 128 << 10
 
 
 class Busy(TimeoutError):
-    """A hash did not get its memory within the `timeout`. It says nothing about the password."""
+    """A hash did not get its memory within the `timeout`. This tells nothing about the password."""
 
 
 class Memory:
-    """Lends at most `limit` KiB at once. Requests are served in their order, so small ones do not starve a large one."""
+    """Lends at most `limit` KiB at once. Requests are served in their order, so small requests do not starve a large one."""
 
     def __init__(self, limit: int, timeout: float | None) -> None:
         self._free = self._limit = limit
@@ -30,7 +30,7 @@ class Memory:
 
     @contextmanager
     def lend(self, size: int) -> Iterator[None]:
-        """Lends `size` KiB, at most `limit`, to what runs in this context, as soon as they are free."""
+        """Waits until `size` KiB are free, at most `limit`, and lends them to the code in this context."""
         with self._lock:
             turn = threading.Condition(self._lock)
             self._queue.append(turn)
@@ -49,6 +49,6 @@ class Memory:
                 self._wake()
 
     def _wake(self) -> None:
-        """Wakes the first that waits."""
+        """Wakes the first request that waits."""
         if self._queue:
             self._queue[0].notify()

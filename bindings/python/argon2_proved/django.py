@@ -1,12 +1,12 @@
-"""Argon2 for Django's PASSWORD_HASHERS, with a secret, a bound on what a stored password may cost, and a bound on memory.
+"""Argon2 for Django's PASSWORD_HASHERS, with a secret key ("pepper"), and with bounds on the costs of hashes and on memory.
 
-`argon2_proved.django.PasswordHasher` replaces Django's Argon2PasswordHasher. Its stored passwords have the same algorithm and the
-same form. The setting ARGON2_PROVED is a dict of arguments of `argon2_proved.PasswordHasher`. The costs that the dict lacks are
-those of Django's class, and everything else that it lacks has the default of `argon2_proved.PasswordHasher`.
+`argon2_proved.django.PasswordHasher` replaces Django's Argon2PasswordHasher. Its stored hashes have the same algorithm and the
+same form. The setting ARGON2_PROVED is a dict of arguments of `argon2_proved.PasswordHasher`. If the dict lacks a cost, this uses
+the cost of Django's class. Every other argument that the dict lacks has the default of `argon2_proved.PasswordHasher`.
 
-`keyid` names the secret. If there is an `old_secret`, a stored password with this `keyid` is verified under `secret`, and each
-other stored password under `old_secret`: Django asks whether a password must be stored anew before Django verifies the password.
-An `old_secret` of no bytes is for passwords that were stored without a secret.
+`keyid` names the secret. If there is an `old_secret`, a stored hash with this `keyid` is verified under `secret`, and each other
+stored hash is verified under `old_secret`. The `keyid` decides because Django asks whether a hash must be renewed before Django
+verifies the password. An `old_secret` of no bytes is for hashes that were stored without a secret.
 """
 
 from __future__ import annotations
@@ -27,12 +27,15 @@ import argon2_proved
 from ._memory import Memory
 
 LOG = logging.getLogger(__name__)
-# The most characters that Django's field for a stored password holds.
+# The most characters that Django's field for a stored hash holds.
 ROOM = 128
 
 
 class PasswordHasher(hashers.BasePasswordHasher):
-    """Makes and verifies stored passwords. A stored password that is damaged or above the bound accepts none, and is logged."""
+    """Makes and verifies stored hashes.
+
+    If a stored hash is damaged or above the bound, it accepts no password, and this logs the reason.
+    """
 
     algorithm = "argon2"
 
@@ -40,6 +43,9 @@ class PasswordHasher(hashers.BasePasswordHasher):
         costs = {it: getattr(hashers.Argon2PasswordHasher, it) for it in ("time_cost", "memory_cost", "parallelism")}
         self._options = {**costs, **getattr(settings, "ARGON2_PROVED", {})}
         old_secret = self._options.pop("old_secret", None)
+        secret = self._options.get("secret")
+        if isinstance(secret, (bytes, bytearray, str)) and not secret:
+            raise ImproperlyConfigured("ARGON2_PROVED: the secret is empty; leave it out to hash without a secret")
         self._memory: Memory | None = None
         try:
             self._new = self._hasher()
@@ -55,7 +61,7 @@ class PasswordHasher(hashers.BasePasswordHasher):
             raise ImproperlyConfigured("ARGON2_PROVED: new passwords would be out of the bound")
 
     def encode(self, password: str | bytes, salt: str) -> str:
-        """What is stored of a password and a salt of 8 to 48 bytes."""
+        """Returns the hash of a password and a salt of 8 to 48 bytes, to be stored."""
         encoded = self.algorithm + self._new.hash(password, salt=salt.encode())
         if len(encoded) > ROOM:
             why = f"a stored password has {len(encoded)} characters, and Django has room for {ROOM}"
@@ -63,7 +69,7 @@ class PasswordHasher(hashers.BasePasswordHasher):
         return encoded
 
     def decode(self, encoded: str) -> dict[str, Any]:
-        """What a stored password shows. If it is damaged, that is an `argon2_proved.Error`."""
+        """Returns what a stored hash shows. If it is damaged, this raises an `argon2_proved.Error`."""
         shown = argon2_proved.parse(self._text(encoded))
         return {
             "algorithm": self.algorithm,
@@ -78,7 +84,7 @@ class PasswordHasher(hashers.BasePasswordHasher):
         }
 
     def verify(self, password: str | bytes, encoded: str) -> bool:
-        """Whether a stored password accepts a password. If there is no memory, that is an error, as it is no answer."""
+        """Returns whether a stored hash accepts a password. Without memory there is no answer, so this raises an error."""
         text = self._text(encoded)
         try:
             return self._hasher_of(text).verify(text, password)
@@ -92,18 +98,18 @@ class PasswordHasher(hashers.BasePasswordHasher):
             return False
 
     def must_update(self, encoded: str) -> bool:
-        """Whether a stored password is weaker than new ones, or has another keyid. One that costs more stays as it is."""
+        """Returns whether a stored hash is weaker than new hashes, or has another keyid. A hash that costs more stays."""
         text = self._text(encoded)
         try:
             return self._new.is_weaker(text) or len(argon2_proved.parse(text).salt) * 8 < self.salt_entropy
         except argon2_proved.Error:
-            # (it accepts no password, so nothing is stored in its place)
+            # (this hash accepts no password, so nothing replaces it)
             return False
 
     def harden_runtime(self, password: str | bytes, encoded: str) -> None:
-        """After a stored password has refused a password: does the work by which a new hash exceeds the stored one.
+        """Does the work that a new hash needs beyond the work of a stored hash, after the stored hash has refused a password.
 
-        Work is memory times passes. So the time of a refusal shows little of whose stored password is weaker.
+        Work is memory times passes. So the time of a refusal shows little about whose stored hash is weaker.
         """
         wanted = self._new._params
         with contextlib.suppress(argon2_proved.Error, argon2_proved.Busy, ValueError):
@@ -113,7 +119,7 @@ class PasswordHasher(hashers.BasePasswordHasher):
                 self._hasher(memory_cost=memory).hash(password)
 
     def safe_summary(self, encoded: str) -> dict[str, Any]:
-        """What Django's admin may show of a stored password, under the names that Django's Argon2PasswordHasher uses."""
+        """Returns what Django's admin may show of a stored hash, under the names that Django's Argon2PasswordHasher uses."""
         shown = self.decode(encoded)
         return {
             _("algorithm"): shown["algorithm"],
@@ -127,23 +133,23 @@ class PasswordHasher(hashers.BasePasswordHasher):
         }
 
     def _text(self, encoded: str) -> str:
-        """The text of Argon2 in a stored password."""
+        """Returns the PHC string in one of Django's stored hashes."""
         return encoded[len(self.algorithm) :]
 
     def _hasher(self, **changes: Any) -> argon2_proved.PasswordHasher:
-        """A hasher of the setting with these changes. All hashers of this object share the bound on memory."""
+        """Returns a hasher of the setting with these changes. All hashers of this object share the bound on memory."""
         hasher = argon2_proved.PasswordHasher(**{**self._options, **changes})
         hasher._memory = self._memory or hasher._memory
         return hasher
 
     def _hasher_of(self, text: str) -> argon2_proved.PasswordHasher:
-        """The hasher with the secret of a text."""
+        """Returns the hasher with the secret of a stored hash."""
         is_new = self._old is None or argon2_proved.parse(text).keyid == self._new.keyid
         return self._new if is_new else self._old
 
 
 @receiver(setting_changed)
 def _reset_hashers(*, setting: str, **_more: Any) -> None:
-    """Has Django read ARGON2_PROVED anew if a test overrides it, as Django does for PASSWORD_HASHERS."""
+    """Lets Django read ARGON2_PROVED again if a test overrides it, as Django does for PASSWORD_HASHERS."""
     if setting == "ARGON2_PROVED":
         hashers.reset_hashers(setting="PASSWORD_HASHERS")
