@@ -1,10 +1,10 @@
-/** Bytes. A string stands for its bytes in UTF-8; a string with half of a pair of surrogates is a TypeError. */
+/** Bytes. A string means its bytes in UTF-8; a string with half of a pair of surrogates is a TypeError. */
 export type Bytes = string | ArrayBuffer | ArrayBufferView;
 
 /** The variant of Argon2. "argon2id" is for passwords. */
 export type Algorithm = "argon2d" | "argon2i" | "argon2id";
 
-/** How a raw hash is made. An option that is given as `undefined` is refused; leave it out for its default. */
+/** How a tag is made. An option that is `undefined` is refused; leave an option out for its default. */
 export interface TagOptions {
   /** The variant; "argon2id" if it is left out. */
   algorithm?: Algorithm;
@@ -14,23 +14,23 @@ export interface TagOptions {
   memory?: number;
   /** The passes over the memory, at least 1; 2 if it is left out. */
   passes?: number;
-  /** The lanes, from 1 to 16777215; 1 if it is left out. They change the hash, and are filled one after the other. */
+  /** The lanes, from 1 to 16777215; 1 if it is left out. They change the tag, and are filled one after the other. */
   lanes?: number;
-  /** The bytes of the hash, at least 4, and at most 64 in a stored hash; 32 if it is left out. */
+  /** The bytes of the tag, at least 4, and at most 64 in a stored hash, whose last field it is; 32 if it is left out. */
   length?: number;
-  /** The secret key ("pepper"). It enters the hash, and no stored hash shows it. None if it is left out. */
+  /** The secret key ("pepper"). It enters the tag, and no stored hash shows it. By default there is no secret. */
   secret?: Bytes;
-  /** Associated data. It enters the hash. A stored hash shows it, and has at most 32 bytes of it. None if it is left out. */
+  /** Associated data. It enters the tag. A stored hash shows it, and has at most 32 bytes of it. By default there is none. */
   data?: Bytes;
 }
 
 /** How a stored hash is made. */
 export interface TextOptions extends TagOptions {
-  /** A key identifier of at most 8 bytes, for example of the secret. The stored hash shows it, and it does not enter the hash. */
+  /** A key identifier of at most 8 bytes, for example of the secret. The stored hash shows it, and it does not enter the tag. */
   keyid?: Bytes;
 }
 
-/** The most that verifying a stored hash may cost, and the bytes that its hash may have. */
+/** The most that verifying a stored hash may cost, and the bytes that its tag may have. */
 export interface Bound {
   /** The most memory in KiB; 262144 if it is left out. */
   memory?: number;
@@ -38,13 +38,13 @@ export interface Bound {
   passes?: number;
   /** The most lanes; 16 if it is left out. */
   lanes?: number;
-  /** The fewest bytes of the hash; 16 if it is left out. */
+  /** The fewest bytes of the tag; 16 if it is left out. */
   minLength?: number;
-  /** The most bytes of the hash; 64 if it is left out. */
+  /** The most bytes of the tag; 64 if it is left out. */
   maxLength?: number;
 }
 
-/** What a login is answered under: what the stored hash is verified under, and the settings of new stored hashes. */
+/** The options of a login: the secrets and the bound under which the stored hash is verified, and the settings of new hashes. */
 export interface LogInOptions extends TextOptions {
   /** The secret key that is tried if the stored hash does not accept the password under `secret`. */
   oldSecret?: Bytes | undefined;
@@ -72,7 +72,7 @@ export interface Parsed {
   lanes: number;
   /** The salt, which is empty if the stored hash has none. */
   salt: Uint8Array;
-  /** The hash, which is empty if the stored hash has none. */
+  /** The tag, which is empty if the stored hash has none. */
   hash: Uint8Array;
   /** The key identifier, which is empty if the stored hash has none. */
   keyid: Uint8Array;
@@ -108,8 +108,8 @@ export class Argon2 {
    */
   hash(password: Bytes, options?: TextOptions & { salt?: Bytes }): string;
   /**
-   * Returns whether a stored hash accepts a password under the secret or, if it is given, the old secret. It does not say under
-   * which. A stored hash that can't be verified is an error.
+   * Returns whether a stored hash accepts a password under the secret or, if you pass it, the old secret. It does not tell which
+   * secret accepted. A stored hash that can't be verified is an error.
    *
    * Codes: TEXT_INVALID; TEXT_MEMORY, TEXT_PASSES, TEXT_LANES, TEXT_KEYID, TEXT_DATA or TEXT_PARAMETERS, by the first parameter
    * that is wrong; ABOVE_BOUND, TEXT_INCOMPLETE, ALGORITHM, VERSION, OUTPUT_OUT_OF_BOUND, OUT_OF_MEMORY.
@@ -120,19 +120,19 @@ export class Argon2 {
    * object, whose `hash` is a new hash to store from now on, or `null` if the stored hash stays.
    *
    * `logIn` makes a new hash under these options in two cases. In the first, only the old secret accepted the password. In the
-   * second, the stored hash is weaker than new ones: it has another algorithm, version, key identifier or data, less memory,
-   * fewer passes or lanes, or a shorter hash. Higher costs and a longer hash stay.
+   * second, the stored hash is weaker than new hashes: it has another algorithm, version, key identifier or data, less memory,
+   * fewer passes or lanes, or a shorter tag. Higher costs and a longer tag stay.
    *
    * If there is no memory for a new hash, the stored hash stays. Options under which no hash can be made are refused at each
    * login, whatever the stored hash and the password are.
    *
-   * Codes: those of `hash` for the options, and then those of `verify`.
+   * Codes: the codes of `hash` for the options, and then the codes of `verify`.
    */
   logIn(text: Bytes, password: Bytes, options?: LogInOptions): LogInAnswer | null;
   /**
-   * Returns whether a stored hash shows other settings than the wanted ones. It does not show its secret.
+   * Returns whether a stored hash shows other settings than the wanted ones. A stored hash does not show its secret.
    *
-   * Codes: those of `hash` from MEMORY_TOO_LITTLE to VERSION, for the wanted settings; then those of `parse`.
+   * Codes: the codes of `hash` from MEMORY_TOO_LITTLE to VERSION, for the wanted settings; then the codes of `parse`.
    */
   needsRehash(text: Bytes, wanted?: TextOptions): boolean;
   /**
@@ -143,7 +143,7 @@ export class Argon2 {
    */
   parse(text: Bytes): Parsed;
   /**
-   * Returns a hash of `length` bytes without a stored hash, for example as a key. The salt has at least 8 bytes.
+   * Returns only a tag, of `length` bytes, for example as a key. The salt has at least 8 bytes.
    *
    * Codes: MEMORY_TOO_LITTLE, LANES_TOO_FEW, LANES_TOO_MANY, PASSES_TOO_FEW, OUTPUT_TOO_SHORT, ALGORITHM, VERSION,
    * SALT_TOO_SHORT, OUT_OF_MEMORY.
@@ -164,8 +164,9 @@ export class Argon2 {
 /**
  * Loads the module of the package, or another one, and returns its functions.
  *
- * A response whose status is not OK rejects the promise with an Error, and bytes that are no module with that of WebAssembly.
+ * A response whose status is not OK rejects the promise with an Error. Bytes that are no module reject it with the error of
+ * WebAssembly.
  */
 export function load(source?: Source | Promise<Source>): Promise<Argon2>;
-/** A module of WebAssembly, its bytes, or a response with them. */
+/** A module of WebAssembly, its bytes, or a response with these bytes. */
 export type Source = WebAssembly.Module | BufferSource | Response;

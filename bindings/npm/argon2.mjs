@@ -1,5 +1,5 @@
-// What each entry of the package has. The functions of the module are proved to decide, hash, read and write texts as their
-// contracts say; this copies their inputs and outputs, and names what they answer.
+// Each entry of the package exports these functions. The functions of the module are proved to decide, hash, and read and write
+// PHC strings as their contracts state. This file copies their inputs and outputs, and names their answers.
 
 import { Argon2Error, MISMATCH, must, OUT_OF_MEMORY } from "./error.mjs";
 import { Instance } from "./instance.mjs";
@@ -11,7 +11,7 @@ const ALGORITHMS = ["argon2d", "argon2i", "argon2id"];
 const COSTS = { algorithm: "argon2id", version: 19, memory: 19456, passes: 2, lanes: 1, length: 32 };
 const TAG = { ...COSTS, secret: "", data: "" };
 const TEXT = { ...TAG, keyid: "" };
-// What a phone bears: the worst text takes 256 MiB, and as long as eleven hashes of 64 MiB and three passes.
+// A phone can bear this: the most expensive stored hash needs 256 MiB, and the time of eleven hashes of 64 MiB and three passes.
 const BOUND = { memory: 262144, passes: 8, lanes: 16, minLength: 16, maxLength: 64 };
 const VERIFYING = { secret: "", oldSecret: undefined, bound: BOUND };
 
@@ -32,7 +32,7 @@ export class Argon2 {
     this.#module = module;
   }
 
-  /** The PHC text of a password. */
+  /** Returns the hash of a password, to be stored, which is a PHC string. */
   hash(password, options = {}) {
     const wanted = complete({ ...TEXT, salt: drawSalt() }, options);
     return this.#use((instance) => {
@@ -42,15 +42,15 @@ export class Argon2 {
     });
   }
 
-  /** Whether a text accepts a password. */
+  /** Returns whether a stored hash accepts a password. */
   verify(text, password, options = {}) {
     return this.#acceptedUnder(text, password, complete(VERIFYING, options)) !== undefined;
   }
 
-  /** Whether a text accepts a password, and the text to store from now on. */
+  /** Returns whether a stored hash accepts a password, and the hash to store from now on. */
   logIn(text, password, options = {}) {
     const { oldSecret, bound, ...wanted } = complete({ ...VERIFYING, ...TEXT }, options);
-    // (so that wrong settings are found at the first login, and not when a text is renewed)
+    // (so the first login finds wrong settings, and not the first renewal)
     this.#use((instance) => must(new Inputs(instance, wanted, password, new Uint8Array(DRAWN_SALT)).textRefusal()));
     const name = this.#acceptedUnder(text, password, { secret: wanted.secret, oldSecret, bound });
     if (name === undefined) return null;
@@ -64,7 +64,7 @@ export class Argon2 {
     }
   }
 
-  /** Whether a text shows other settings than the wanted ones. It does not show its secret. */
+  /** Returns whether a stored hash shows other settings than the wanted ones. It does not show its secret. */
   needsRehash(text, options = {}) {
     const wanted = complete(TEXT, options);
     return this.#use((instance) => {
@@ -76,12 +76,12 @@ export class Argon2 {
     });
   }
 
-  /** What a text shows. */
+  /** Returns what a stored hash shows. */
   parse(text) {
     return this.#use((instance) => show(instance, "phc_show", ...instance.write(text, "the text")));
   }
 
-  /** The hash alone, as a key, say. */
+  /** Returns only the tag, for example as a key. */
   raw(password, salt, options = {}) {
     const wanted = { ...complete(TAG, options), keyid: "" };
     return this.#use((instance) => {
@@ -91,7 +91,7 @@ export class Argon2 {
     });
   }
 
-  /** As `raw`, in turns of some milliseconds. */
+  /** Does what `raw` does, in turns of some milliseconds. */
   async rawAsync(password, salt, options = {}) {
     const { onProgress, signal, ...settings } = complete({ ...TAG, onProgress: undefined, signal: undefined }, options);
     const wanted = { ...settings, keyid: "" };
@@ -108,7 +108,7 @@ export class Argon2 {
     }
   }
 
-  // The name of the secret under which a text accepts a password, if it does.
+  // Returns the name of the secret under which a stored hash accepts a password, if it does.
   #acceptedUnder(text, password, { secret, oldSecret, bound }) {
     const most = complete(BOUND, bound);
     return this.#use((instance) => {
@@ -130,7 +130,8 @@ export class Argon2 {
     });
   }
 
-  // Whether a text is weaker than new ones: it shows other settings, and higher costs and a longer hash do not count.
+  // Returns whether a stored hash is weaker than new hashes. It shows other settings then; higher costs and a longer tag do not
+  // count.
   #isWeaker(text, wanted) {
     const { hash, ...shown } = this.parse(text);
     const higher = ["memory", "passes", "lanes"].map((name) => [name, Math.max(shown[name], wanted[name])]);
@@ -138,7 +139,7 @@ export class Argon2 {
     return this.needsRehash(text, { ...wanted, ...Object.fromEntries(higher), length });
   }
 
-  // Calls a function with an instance. One whose call failed is dropped, as it may have stopped anywhere.
+  // Calls a function with an instance. If the call fails, the instance is dropped, because it may have stopped anywhere.
   #use(body) {
     const instance = this.#take();
     try {
@@ -161,7 +162,7 @@ export class Argon2 {
   }
 }
 
-// The inputs of a hash in the memory of an instance.
+// The inputs of a hash, in the memory of an instance.
 class Inputs {
   #instance;
   #wanted;
@@ -178,14 +179,14 @@ class Inputs {
     this.secret = instance.write(wanted.secret, "the secret");
     this.data = instance.write(wanted.data, "the data");
     this.keyid = instance.write(wanted.keyid, "the key identifier");
-    // (no thread, no null pointer, no callback; an algorithm without a number is refused)
+    // (there are no threads, no null pointers and no callbacks; an algorithm without a number is refused)
     this.request = instance.writeNumbers(algorithm, version, memory, passes, lanes, lanes, 0, 0);
   }
 
-  // The code of a function that says why these inputs are refused, or 0.
+  // Calls a function that checks these inputs. Returns the code of its refusal, or 0.
   refusal(name, ...words) {
     const lengths = [this.keyid[1], this.data[1], this.secret[1], this.#wanted.length, 1];
-    // (each of 64 bits; the last number says that the one before it is set)
+    // (each length has 64 bits; the last number means that the length before it is set)
     const place = this.#instance.writeNumbers(...lengths.flatMap((it) => [Number(it), 0]));
     return this.#instance.call(name, this.request, place, ...words);
   }
@@ -198,7 +199,7 @@ class Inputs {
     return this.refusal("text_refusal", this.salt[1], BigInt(this.#wanted.length), this.password[1]);
   }
 
-  // The place of the tag of inputs that are not refused. The next tag has the same blocks, and the same place.
+  // Makes the tag of inputs that are not refused, and returns its place. The next tag has the same blocks and the same place.
   tag() {
     const { password, salt, secret, data } = this;
     const count = blockCount(this.#wanted.memory, this.#wanted.lanes);
@@ -208,7 +209,7 @@ class Inputs {
     return out;
   }
 
-  // The same, one segment after the other: yields the share that is done, and returns the place.
+  // Makes the tag one segment after the other. Yields the share that is done, and returns the place of the tag.
   *segments() {
     const { request, password, salt, secret, data } = this;
     const { memory, passes, lanes, length } = this.#wanted;
@@ -235,7 +236,7 @@ class Inputs {
     return out;
   }
 
-  // The text of a tag.
+  // Returns the PHC string with a tag.
   text(tag) {
     const text = this.#instance.lend(TEXT_SIZE);
     must(this.#instance.call("phc_encode", this.request, ...this.keyid, ...this.data, ...this.salt, ...tag, ...text));
@@ -243,7 +244,7 @@ class Inputs {
   }
 }
 
-// What a call shows of a text.
+// Returns what a call shows of a stored hash.
 function show(instance, name, ...words) {
   const place = instance.lend(SHOWN_SIZE);
   must(instance.call(name, ...words, place[0]));
@@ -256,7 +257,7 @@ function show(instance, name, ...words) {
   };
 }
 
-// The blocks that a hash fills.
+// Returns how many blocks a hash fills.
 function blockCount(memory, lanes) {
   return 4 * lanes * Math.floor(memory / (4 * lanes));
 }
@@ -265,7 +266,7 @@ function drawSalt() {
   return crypto.getRandomValues(new Uint8Array(DRAWN_SALT));
 }
 
-/** The module of a module, its bytes, a response with them, or a promise of one of these. */
+/** Returns the module of a source, which is a module, its bytes, a response with these bytes, or a promise of one of these. */
 export async function moduleOf(source) {
   let it = await source;
   if (it instanceof Response) {
@@ -275,12 +276,12 @@ export async function moduleOf(source) {
   return it instanceof WebAssembly.Module ? it : WebAssembly.compile(it);
 }
 
-/** Makes it of the same. */
+/** Makes an Argon2 with the module of a source. */
 export async function open(source) {
   return new Argon2(await moduleOf(source));
 }
 
-// Takes the steps of a generator, and returns its result.
+// Runs the steps of a generator in turns, and returns its result.
 async function inTurns(steps, onProgress, signal) {
   let begun = performance.now();
   let step = steps.next();

@@ -1,4 +1,4 @@
-// Calls of a worker's functions, which page and worker share.
+// Calls of a worker's functions. A page and its worker share this code.
 
 import { Argon2Error } from "./error.mjs";
 import { bytesOf, isBytes } from "./instance.mjs";
@@ -7,11 +7,11 @@ import { requirePlain } from "./options.mjs";
 const NAMES = ["hash", "verify", "logIn", "needsRehash", "parse", "raw"];
 
 /**
- * Answers calls by what is loaded. It takes a promise of that, and what posts an answer, and returns what takes a call. The bytes
- * of the call and of its answer are copies of the worker, which it clears.
+ * Answers calls. The first argument is a promise of the functions, and the second argument posts an answer. Returns a function
+ * that handles a call. The bytes of the call and of its answer are copies of the worker, which the worker clears.
  */
 export function answering(loading, post) {
-  // (without a call nobody asks for why it was not loaded)
+  // (before a call nobody asks why the functions were not loaded)
   loading.catch(() => {});
   return async ({ id, name, words }) => {
     let answer;
@@ -27,7 +27,7 @@ export function answering(loading, post) {
   };
 }
 
-/** Clears all bytes in a copied value. The buffer of a view is cleared as a whole, and memory that is shared is no copy. */
+/** Clears all bytes in a copied value. It clears the whole buffer of a view. Shared memory is no copy, so it stays. */
 export function clear(value) {
   if (isBytes(value)) {
     const buffer = value.buffer ?? value;
@@ -38,8 +38,8 @@ export function clear(value) {
 }
 
 /**
- * A copy of the words of a call, and the buffers of its bytes, each of which has only these bytes. Options that are not plain are
- * refused, since a copy has what an object itself has, and leaves its prototype out.
+ * Returns a copy of the arguments of a call, and the buffers of its bytes. Each buffer contains only these bytes. Options that
+ * are no plain object are refused, because a copy has the properties of the object itself, and not of its prototype.
  */
 export function copied(words) {
   const buffers = [];
@@ -68,7 +68,7 @@ function isObject(value) {
   return typeof value === "object" && value !== null;
 }
 
-/** The calls that wait for answers of a worker. */
+/** Calls of a worker, and the promises that wait for its answers. */
 export class Calls {
   #worker;
   #waiting = new Map();
@@ -79,18 +79,18 @@ export class Calls {
     this.#worker = worker;
   }
 
-  /** The worker's functions, each of which returns a promise. */
+  /** Returns the functions of the worker. Each of them returns a promise. */
   functions() {
     const functionOf = (name) => async (...words) => this.call(name, copied(words));
     return { ...Object.fromEntries(NAMES.map((name) => [name, functionOf(name)])), terminate: () => void this.terminate() };
   }
 
-  /** Why the worker answers no more calls, if it does not. */
+  /** The error after which the worker answers no more calls, or undefined. */
   get ended() {
     return this.#ended;
   }
 
-  /** The answer to a call. The copy of its words goes to the worker, without a further copy of its bytes. */
+  /** Returns the answer to a call. The copy of its arguments goes to the worker, without a further copy of the bytes. */
   async call(name, { words, buffers }) {
     const id = this.#next++;
     try {
@@ -100,12 +100,12 @@ export class Calls {
       clear(words);
       throw error;
     }
-    // (node waits for a worker that it has a reference to)
+    // (node waits for a worker to which it has a reference)
     this.#worker.ref?.();
     return new Promise((resolve, reject) => this.#waiting.set(id, { resolve, reject }));
   }
 
-  /** Takes an answer. (A worker that is terminated still delivers what it had posted, which nobody waits for.) */
+  /** Handles an answer. (A worker that is terminated still delivers the answers that it had posted. Nobody waits for them.) */
   take({ id, answer, error, number }) {
     const waiting = this.#waiting.get(id);
     if (waiting === undefined) return;
@@ -115,7 +115,7 @@ export class Calls {
     else reject(number === undefined ? error : new Argon2Error(number));
   }
 
-  /** Ends all calls, later ones too. */
+  /** Rejects all calls, and later calls too. */
   end(error) {
     this.#ended ??= error;
     for (const [id, { reject }] of this.#waiting) {
@@ -124,7 +124,7 @@ export class Calls {
     }
   }
 
-  /** Ends the worker, and all calls. In node it returns a promise, which waits for the end. */
+  /** Ends the worker, and rejects all calls. In node it returns a promise, which waits for the end of the worker. */
   terminate() {
     this.end(new Error("the worker was terminated"));
     return this.#worker.terminate();

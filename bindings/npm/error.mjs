@@ -1,6 +1,6 @@
 import { CODES } from "./codes.mjs";
 
-/** A refusal. `code` is its name, such as ABOVE_BOUND, and `number` that name's code in argon2_phc.h. */
+/** A refusal. `code` is its name, such as ABOVE_BOUND, and `number` is the number of this name in argon2_phc.h. */
 export class Argon2Error extends Error {
   constructor(number) {
     const [code, message] = CODES.get(number) ?? ["UNKNOWN", "Unknown error code"];
@@ -11,7 +11,7 @@ export class Argon2Error extends Error {
   }
 }
 
-/** Throws the error of a negative code. */
+/** Throws the error of a negative number, and returns any other number. */
 export function must(number) {
   if (number < 0) throw new Argon2Error(number);
   return number;

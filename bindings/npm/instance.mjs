@@ -1,18 +1,18 @@
-// The proved module imports nothing and requests no memory. In its memory the stack comes first, then its constants. What it
-// reads and writes is lent to it behind these.
+// The proved module imports nothing and requests no memory. Its memory begins with the stack and its constants. After them this
+// file lends it the places that it reads and writes.
 
 import { Argon2Error, OUT_OF_MEMORY } from "./error.mjs";
 
 const PAGE = 65536;
-const STACK = 65536; // as build/npm links it
-// The last page is never there: a stack that is too deep would go on there, below address 0.
+const STACK = 65536; // build/npm links the module with this size
+// The last page never exists, because a stack that is too deep would continue in it, below address 0.
 const LARGEST = 2 ** 32 - PAGE;
 const BLOCK = 1024;
 
 const encoder = new TextEncoder();
 const decoder = new TextDecoder();
 
-/** An instance of the module. A place in its memory is an address and a length, as its functions take them. */
+/** An instance of the module. A place in its memory is an address and a length, which are arguments of its functions. */
 export class Instance {
   #exports;
   #begin;
@@ -23,7 +23,7 @@ export class Instance {
     this.#begin = this.#end = Number(this.#exports.__heap_base.value);
   }
 
-  /** The bytes of its memory, which never shrinks. */
+  /** The number of bytes of its memory, which never shrinks. */
   get size() {
     return this.#exports.memory.buffer.byteLength;
   }
@@ -32,7 +32,7 @@ export class Instance {
     return this.#exports[`argon2_c_${name}`](...words);
   }
 
-  /** A place for so many bytes, which are zero. */
+  /** Returns a place of `length` bytes, which are zero. */
   lend(length, alignment = 16) {
     const at = Math.ceil(this.#end / alignment) * alignment;
     this.#grow(at + length);
@@ -40,13 +40,13 @@ export class Instance {
     return [BigInt(at), BigInt(length)];
   }
 
-  /** Blocks, as a function from the first of some and their number to their place. */
+  /** Lends blocks. Returns a function that returns the place of `number` blocks from the block `first` on. */
   lendBlocks(count) {
     const at = Number(this.lend(count * BLOCK, BLOCK)[0]);
     return (first, number) => [BigInt(at + first * BLOCK), BigInt(number)];
   }
 
-  /** A place with a value: a text in UTF-8, or bytes. */
+  /** Returns a place with a value, which is bytes, or a string that is written in UTF-8. */
   write(value, name) {
     if (typeof value === "string") return this.#writeText(value, name);
     const bytes = bytesOf(value, name);
@@ -55,7 +55,7 @@ export class Instance {
     return place;
   }
 
-  /** The address of a structure of numbers of 32 bits. */
+  /** Returns the address of a structure of numbers of 32 bits. */
   writeNumbers(...numbers) {
     const place = this.lend(4 * numbers.length);
     this.setNumbers(place, ...numbers);
@@ -67,7 +67,7 @@ export class Instance {
     numbers.forEach((it, index) => view.setUint32(4 * index, it, true));
   }
 
-  /** A copy of the bytes at a place. */
+  /** Returns a copy of the bytes at a place. */
   read(place) {
     return this.#bytes(place).slice();
   }
@@ -77,13 +77,13 @@ export class Instance {
     return Array.from({ length: count }, (_, index) => view.getUint32(4 * index, true));
   }
 
-  /** The text before the first zero byte of a place. */
+  /** Returns the string before the first zero byte of a place. */
   readText(place) {
     const bytes = this.#bytes(place);
     return decoder.decode(bytes.slice(0, bytes.indexOf(0)));
   }
 
-  /** Takes back and clears all that was lent, and clears the stack. */
+  /** Takes back and clears all places that were lent, and clears the stack. */
   clear() {
     const bytes = new Uint8Array(this.#exports.memory.buffer);
     bytes.fill(0, 0, STACK);
@@ -91,7 +91,7 @@ export class Instance {
     this.#end = this.#begin;
   }
 
-  // The text goes into the memory of the module at once, so that no other copy has to be cleared.
+  // The bytes of the string go directly into the memory of the module, so no other copy has to be cleared.
   #writeText(text, name) {
     if (/\p{Surrogate}/u.test(text)) throw new TypeError(`${name} has half of a pair of surrogates`);
     const [at, room] = this.lend(3 * text.length);
@@ -116,7 +116,7 @@ export class Instance {
   }
 }
 
-// The answer of what requests memory. If the engine refuses that, it is an error by name.
+// Returns the answer of a function that requests memory. If the engine refuses the memory, this throws an Argon2Error.
 function requested(body) {
   try {
     return body();
@@ -125,12 +125,12 @@ function requested(body) {
   }
 }
 
-/** Whether a value is bytes: a buffer, or a view of one. */
+/** Returns whether a value is bytes, which are a buffer or a view of a buffer. */
 export function isBytes(value) {
   return ArrayBuffer.isView(value) || value instanceof ArrayBuffer;
 }
 
-/** The bytes of a buffer or a view, which are not copied. */
+/** Returns the bytes of a buffer or a view, without a copy. */
 export function bytesOf(value, name) {
   if (!isBytes(value)) throw new TypeError(`${name} is neither a string nor bytes`);
   return ArrayBuffer.isView(value) ? new Uint8Array(value.buffer, value.byteOffset, value.byteLength) : new Uint8Array(value);

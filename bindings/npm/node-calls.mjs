@@ -1,6 +1,6 @@
 import { Calls } from "./calls.mjs";
 
-/** The calls of a thread. While it has none, node does not wait for it. */
+/** Returns the calls of a thread. While the thread has no call, node does not wait for it. */
 export function callsOf(worker) {
   const calls = new Calls(worker);
   worker.on("message", (it) => calls.take(it));

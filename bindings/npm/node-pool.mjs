@@ -7,7 +7,7 @@ import { Pool } from "./pool.mjs";
 export { PoolError } from "./pool.mjs";
 
 function start(module) {
-  // (without node's own options, by which a program may come from standard input)
+  // (without node's own options, which may be for a program that comes from standard input)
   return callsOf(new Worker(new URL("./in-node-pool.mjs", import.meta.url), { execArgv: [], workerData: module }));
 }
 

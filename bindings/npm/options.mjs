@@ -1,14 +1,14 @@
-// What options are.
+// Checks options.
 
-/** Refuses options whose prototype may have more of them, which would be left out. */
+/** Refuses options with a prototype, because the prototype may have more options, which would be left out. */
 export function requirePlain(options) {
   const prototype = Object.getPrototypeOf(options);
   if (prototype !== Object.prototype && prototype !== null) throw new TypeError("options are no plain object");
 }
 
 /**
- * Options with their defaults. One that is undefined stays so and is refused, so that a secret that was not read is not left
- * out.
+ * Returns options with their defaults. An option that is undefined stays undefined, and is refused. So a secret that was not read
+ * is not left out.
  */
 export function complete(defaults, options) {
   requirePlain(options);
@@ -18,7 +18,7 @@ export function complete(defaults, options) {
   return { ...defaults, ...options };
 }
 
-/** A whole number, which is refused below and above these ones. */
+/** Returns a whole number, and refuses it below `least` and above `most`. */
 export function whole(value, name, least = 0, most = 4294967295) {
   if (Number.isInteger(value) && value >= least && value <= most) return value;
   throw new RangeError(`${name} is no whole number from ${least} to ${most}`);

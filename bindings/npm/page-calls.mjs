@@ -1,6 +1,6 @@
 import { Calls } from "./calls.mjs";
 
-/** The calls of a worker of a page. */
+/** Returns the calls of a worker of a page. */
 export function callsOf(worker) {
   const calls = new Calls(worker);
   worker.onmessage = ({ data }) => calls.take(data);

@@ -2,8 +2,8 @@ import type { Functions } from "./worker.mjs";
 
 export interface PoolOptions {
   /**
-   * The most workers, each of which makes one hash at a time, and has the memory of one hash; 1 or more. If it is left out, it
-   * is the number of processors that the system offers.
+   * The most workers, at least 1. Each worker makes one hash at a time, and has the memory of one hash. If the size is left out,
+   * it is the number of processors that the system offers.
    */
   size?: number;
   /** The most calls that wait for a worker; 64 if it is left out. With 0 no call waits. */
@@ -17,7 +17,7 @@ export interface PoolOptions {
  *
  * QUEUE_FULL: all workers have a call, and `maxQueued` calls wait. Nothing was hashed.
  * POOL_CLOSED: the call came after `close`. Nothing was hashed.
- * WORKER_DIED: the worker did not start, or ended before it answered, and `cause` says why. The next call gets another worker.
+ * WORKER_DIED: the worker did not start, or ended before it answered; `cause` is the reason. The next call gets another worker.
  */
 export class PoolError extends Error {
   constructor(code: PoolError["code"], options?: { cause?: unknown });
@@ -26,12 +26,12 @@ export class PoolError extends Error {
 
 /**
  * The functions of an Argon2 as promises. `hash`, `verify`, `logIn` and `raw` wait for a worker in the order of the calls. They
- * use the bytes and options that they were given, also if the caller changes them later. `needsRehash` and `parse` hash nothing:
- * they need no worker, and do not wait.
+ * copy the bytes and options of a call, so the caller may change them later. `needsRehash` and `parse` make no hash, so they need
+ * no worker, and do not wait.
  */
 export type Argon2Pool = Functions & {
   /**
-   * Closes the pool: later calls are rejected, and those before are answered. The promise is fulfilled when all workers have
+   * Closes the pool. Later calls are rejected, and earlier calls are answered. The promise is fulfilled when all workers have
    * ended.
    */
   close(): Promise<void>;

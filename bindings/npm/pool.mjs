@@ -1,14 +1,14 @@
-// Workers, each of which answers one call at a time, and the calls that wait for them, both within a bound.
+// A pool has workers, and calls that wait for a worker. A worker answers one call at a time. Both numbers have a bound.
 
 import { Argon2, moduleOf } from "./argon2.mjs";
 import { clear, copied } from "./calls.mjs";
 import { complete, whole } from "./options.mjs";
 
-// What a worker answers, and what the pool answers itself, since no hash is made.
+// Workers answer the calls of IN_WORKERS. The pool itself answers the calls of HERE, because they make no hash.
 const IN_WORKERS = ["hash", "verify", "logIn", "raw"];
 const HERE = ["needsRehash", "parse"];
 const OPTIONS = { maxQueued: 64, idleTimeout: 10000 };
-// The most milliseconds of a timer. A timer with more ends at once.
+// The most milliseconds of a timer. A timer with more milliseconds ends at once.
 const LONGEST = 2 ** 31 - 1;
 
 const MESSAGES = {
@@ -17,7 +17,7 @@ const MESSAGES = {
   WORKER_DIED: "a worker of the pool did not start, or ended before it answered",
 };
 
-/** Why a pool did not answer a call. `code` is the name of the error, and `cause` says why a worker died. */
+/** Why a pool did not answer a call. `code` is the name of the error, and `cause` is the reason why a worker died. */
 export class PoolError extends Error {
   constructor(code, options) {
     super(MESSAGES[code], options);
@@ -26,7 +26,10 @@ export class PoolError extends Error {
   }
 }
 
-/** A pool. It takes what reads the package's module, what starts a worker with a module, and the size if the options lack it. */
+/**
+ * A pool. `readModule` reads the package's module, `start` starts a worker with a module, and `size` is the size if the options
+ * lack it.
+ */
 export class Pool {
   #readModule;
   #start;
@@ -34,10 +37,10 @@ export class Pool {
   #maxQueued;
   #idleTimeout;
   #loading;
-  // The calls that wait, and how many others have a worker or are about to have one.
+  // The calls that wait, and how many other calls have a worker or will have one soon.
   #queue = [];
   #running = 0;
-  // The workers without a call, each with its timer. The one that was used last is at the end.
+  // The workers without a call, each with its timer. The worker that had a call last is at the end.
   #idle = [];
   #ends = Promise.resolve();
   #closing;
@@ -52,7 +55,7 @@ export class Pool {
     this.#start = start;
   }
 
-  /** The functions of the pool, each of which returns a promise. */
+  /** Returns the functions of the pool. Each of them returns a promise. */
   functions() {
     const functionsOf = (names, call) => Object.fromEntries(names.map((name) => [name, async (...words) => call(name, words)]));
     return {
@@ -62,7 +65,7 @@ export class Pool {
     };
   }
 
-  // The answer of a worker.
+  // Returns the answer of a worker.
   #enqueue(name, words) {
     this.#requireOpen();
     if (this.#running === this.#size && this.#queue.length >= this.#maxQueued) throw new PoolError("QUEUE_FULL");
@@ -73,7 +76,7 @@ export class Pool {
     });
   }
 
-  // The answer of the pool itself.
+  // Returns the answer of the pool itself.
   async #answer(name, words) {
     this.#requireOpen();
     const copy = copied(words);
@@ -88,7 +91,7 @@ export class Pool {
     if (this.#closing) throw new PoolError("POOL_CLOSED");
   }
 
-  // Starts the calls that there is room for. The last call of a pool that is closed ends the workers.
+  // Starts calls until all workers have one. The last call of a pool that is closed ends the workers.
   #next() {
     while (this.#queue.length > 0 && this.#running < this.#size) this.#run(this.#queue.shift());
     if (this.#closing && this.#running === 0) {
@@ -114,7 +117,7 @@ export class Pool {
     }
   }
 
-  // All workers have the same module. If it was not loaded, the next call reads it again.
+  // Loads the module, which all workers share. If that fails, the next call reads the module again.
   #load() {
     this.#loading ??= moduleOf(this.#readModule())
       .then((module) => ({ module, argon2: new Argon2(module) }))
@@ -144,7 +147,8 @@ export class Pool {
     this.#idle.push({ worker, timer });
   }
 
-  // The worker that was used last, so that others are idle for longer. One that died is ended, and another one takes its place.
+  // Returns the worker that had a call last, so that the others are idle for longer. A worker that died is ended, and the next
+  // worker replaces it.
   #takeIdle() {
     for (let it; (it = this.#idle.pop()); ) {
       clearTimeout(it.timer);

@@ -1,5 +1,5 @@
-// Serves a folder with a strict policy, opens its page index.html in a browser without a screen, and prints what that posts:
-// node tests/npm/browse.mjs FOLDER BROWSER HOME. BROWSER is chromium or firefox-esr, and has its files in the folder HOME.
+// Serves a folder with a strict policy, opens its page index.html in a browser without a screen, and prints what the page posts:
+// node tests/npm/browse.mjs FOLDER BROWSER HOME. BROWSER is chromium or firefox-esr, and keeps its files in the folder HOME.
 
 import { spawn } from "node:child_process";
 import { mkdirSync } from "node:fs";
@@ -10,7 +10,7 @@ import { extname, join } from "node:path";
 const [folder, command, home] = process.argv.slice(2);
 const profile = join(home, "profile");
 const WORDS = {
-  // (for root it starts in no other way than without a sandbox)
+  // (as root it starts only without a sandbox)
   chromium: [
     ...["--headless=new", "--disable-gpu", "--disable-dev-shm-usage", `--user-data-dir=${profile}`],
     ...(process.getuid() === 0 ? ["--no-sandbox"] : []),
@@ -37,7 +37,7 @@ const server = createServer(async (request, response) => {
   try {
     const body = await readFile(join(folder, pathname));
     response.setHeader("Content-Type", TYPES[extname(pathname)] ?? "text/plain");
-    // (which has its own policy)
+    // (demo.html has its own policy)
     if (pathname !== "/demo.html") response.setHeader("Content-Security-Policy", POLICY);
     response.writeHead(200).end(body);
   } catch {

@@ -1,4 +1,4 @@
-// Cases of the package's own bound: password, secret, and a text that asks for more than 16 passes.
+// Cases of the option `bound`. Each is a password and a secret in hexadecimal, and a text that asks for more than 16 passes.
 
 export const ABOVE_BOUND = [
   ["45aff5b2b761553b31ec6cb75d93742b3a7c37539517715bf2ca65c0d166de5206074aae5f9dc34bb58d5d62f724566b6cc573db8be59f41c57e6348cf9cdd9c586625b74b81e812b1e8534a4f7053c2ead2c649fca6351b384e695f13eee9c4f91032ee5cad053f88d7b0c4c535ba4d848faebec0dad1e93bafce38bdc2808dd5228d453bb2006c92c0247d2208aa95", "6e0066f0b44adf696d7e719bcff5cdb4", "$argon2id$v=19$m=13,t=91,p=1$hkOg8n89OewDtKkyjZitxQ$xJakr1GFDz7T9ZhChFBAC6lABxu2ksJVB6RhPg30LSvnZpZxEaFUIgU1mViwWYA4Y6iYx3A4w+6DavpOt4pruA"],

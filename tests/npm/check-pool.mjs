@@ -25,7 +25,7 @@ const workers = {
   isMissing: ({ message }) => message.includes("missing.mjs"),
 };
 
-// What a program prints that has a pool. It has to end well, by itself.
+// Returns what a program with a pool prints. The program has to end by itself, with status 0.
 function printed(program) {
   const head = `import { createPool } from ${JSON.stringify(new URL("node-pool.mjs", folder).href)};\n`;
   const words = ["--input-type=module", "-e", head + program];
@@ -35,7 +35,7 @@ function printed(program) {
 }
 
 const TESTS = {
-  // (in MiB; each of four workers keeps 64. On a machine that is busy the first may end before the last has begun.)
+  // (in MiB; each of four workers keeps 64. If the machine is busy, the first may end before the last has begun.)
   "a pool gives back the memory of workers that are idle": () => {
     const [first, full, idle] = printed(`
       import { setTimeout as pause } from "node:timers/promises";
@@ -80,7 +80,7 @@ const TESTS = {
       syncBuiltinESMExports();
       const pool = createPool({ size: 1 });
       await pool.raw("x", "somesalt");
-      // (no call, so that its function fails after the next call)
+      // (null is not a call, so the function of the worker fails)
       last.postMessage(null);
       last.ref();
       await new Promise((resolve) => last.on("exit", resolve));

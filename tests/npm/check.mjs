@@ -10,7 +10,7 @@ const folder = pathToFileURL(`${process.argv[2]}/`);
 const readModule = (name) => new Uint8Array(readFileSync(new URL(name, folder)));
 const WORKER = JSON.stringify(new URL("node-worker.mjs", folder).href);
 
-// A program whose worker has posted an answer that it reads only after it has ended the worker.
+// A program that reads the answer of a worker only after it has ended the worker.
 const LATE = `
 import { start } from ${WORKER};
 const worker = start();
@@ -23,7 +23,7 @@ console.log(await waiting.catch(({ message }) => message));
 setTimeout(() => {}, 100);
 `;
 
-// Requires that node ends well with a program on standard input, or by -e, and returns what it writes.
+// Requires that node ends with status 0 for a program on standard input or after -e, and returns what the program writes.
 function written(program, isInput) {
   const words = isInput ? ["--input-type=module", "-"] : ["--input-type=module", "-e", program];
   const { status, stdout, stderr } = spawnSync(process.execPath, words, { input: isInput ? program : "", encoding: "utf8" });
@@ -60,7 +60,7 @@ const TESTS = {
   "a worker": async () => {
     const { start } = await import(new URL("node-worker.mjs", folder));
     await tryWorker(start);
-    // (node ends though this one is there)
+    // (node ends although this worker exists)
     await start().raw("x", "somesalt");
   },
 

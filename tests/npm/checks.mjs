@@ -1,10 +1,10 @@
-// How the tests in node and in pages check.
+// The checks of the tests in node and in pages.
 
 export function check(holds, ...found) {
   if (!holds) throw new Error(found.map((it) => (typeof it === "string" ? it : JSON.stringify(it))).join(" "));
 }
 
-/** The error that a call throws, or whose promise is rejected by it. */
+/** Returns the error that a call throws, or the error with which its promise is rejected. */
 export async function thrown(call) {
   try {
     await call();

@@ -1,11 +1,12 @@
-// Log-ins by texts of `pass wörd` that an independent model made, with the salt `somesaltsomesalt`. The wanted settings are those
-// of SETTINGS, and a bound of 1024 KiB and 8 passes.
+// Logins with texts that an independent model made for the password `pass wörd` and the salt `somesaltsomesalt`. SETTINGS
+// contains the wanted settings, and a bound of 1024 KiB and 8 passes.
 
 export const PASSWORD = "pass wörd";
 export const SETTINGS = { memory: 64, passes: 2, lanes: 2, secret: "the secret", bound: { memory: 1024, passes: 8 } };
 
-// What the text is, options that SETTINGS lacks or has otherwise, the answer, and the text. `password` is another password. The
-// answer is a new text, that the stored one stays, that the password is refused, or the code of an error.
+// Each login has a name, options that change or extend SETTINGS, the answer, and the text. The option `password` is another
+// password. The answer is "new" for a new text, "stays" for the stored text, "refused" for a wrong password, or the code of an
+// error.
 export const LOG_INS = [
   ["the wanted settings", {}, "stays",
     "$argon2id$v=19$m=64,t=2,p=2$c29tZXNhbHRzb21lc2FsdA$tHbgSBTTv9s1/ighbL0Np0jpnnJ7EpS1OxR8QcU+eNk"],

@@ -1,15 +1,15 @@
-// What is tried of logIn, in node and in pages.
+// Tests of logIn, in node and in pages.
 
 import { check, thrown } from "./checks.mjs";
 import { LOG_INS, PASSWORD, SETTINGS } from "./log-in-cases.mjs";
 
-// What an answer is, as LOG_INS says it.
+// Returns the word of LOG_INS for an answer.
 function nameOf(answer) {
   if (answer === null) return "refused";
   return answer.hash === null ? "stays" : "new";
 }
 
-/** Changes the secret of a hundred users by their logins, by an Argon2, a worker or a pool. */
+/** Changes the secret of a hundred users while they log in. `argon2` is an Argon2, a worker or a pool. */
 export async function tryRotation(argon2) {
   const costs = { memory: 16, passes: 1 };
   const [old, both, fresh] = [
@@ -20,7 +20,7 @@ export async function tryRotation(argon2) {
   const passwords = Array.from({ length: 100 }, (_, at) => `password ${at}`);
   const users = await Promise.all(passwords.map(async (password) => ({ password, hash: await argon2.hash(password, old) })));
   const absent = await argon2.hash("password", old);
-  // The answers to a login of each user, whose new hashes are stored.
+  // Returns the answers to a login of each user, and stores their new hashes.
   const logIn = async (options, passwordOf = ({ password }) => password) =>
     Promise.all(
       users.map(async (user) => {
@@ -35,7 +35,7 @@ export async function tryRotation(argon2) {
   all(await logIn(both, ({ password }) => `${password}0`), "refused");
   all(await logIn(both), "new");
   all(await logIn(both), "stays");
-  // From here on the old secret is dropped.
+  // From here on the old secret is no longer used.
   all(await logIn(fresh), "stays");
   all(await logIn(fresh, ({ password }) => `${password}0`), "refused");
   all(await logIn(old), "refused");

@@ -65,7 +65,7 @@ const TESTS = {
   },
 
   // (the hash by Debian's libargon2)
-  "the example of docs/LANGUAGES.md": async () => {
+  "the example of a key in the README": async () => {
     const key = "7664ad4ba1a3c999fcdd0991ffc2270f78302d2383233db5e7befc85d1bb1819";
     check(toHex(await makeKey("password", "somesaltsomesalt")) === key);
   },

@@ -1,16 +1,16 @@
-// What is tried of pools, in node and in pages.
+// Tests of pools, in node and in pages.
 
 import { check, thrown } from "./checks.mjs";
 import { tryRotation } from "./log-in.mjs";
 
 const SALT = "somesalt";
 const SMALL = { memory: 8, passes: 1 };
-// Some tenths of a second.
+// A hash with these costs takes some tenths of a second.
 const LONG = { memory: 65536, passes: 4 };
 
 const pause = (milliseconds = 0) => new Promise((resolve) => setTimeout(resolve, milliseconds));
 
-/** What becomes of promises: the code of each error, or the word that it is done or waits. */
+/** Returns the states of promises: the code of an error, "done" or "waits" for each. */
 async function statesOf(promises) {
   const states = promises.map(() => "waits");
   promises.forEach((it, at) => it.then(() => (states[at] = "done"), (error) => (states[at] = error.code ?? String(error))));
@@ -18,7 +18,7 @@ async function statesOf(promises) {
   return states.join(" ");
 }
 
-/** Calls that a test answers, in place of workers. */
+/** Returns stand-ins for workers. The test answers their calls. */
 function standIns(Calls) {
   const workers = [];
   const start = (module) => {
@@ -43,7 +43,7 @@ function standIns(Calls) {
   return { workers, start };
 }
 
-/** The buffers that are made during a call of a function. */
+/** Returns the buffers that are made during a call of a function. */
 async function buffersOf(body) {
   const buffers = [];
   const { ArrayBuffer } = globalThis;
@@ -62,11 +62,11 @@ async function buffersOf(body) {
 }
 
 /**
- * The tests. They take what the package has, its module, the class Worker, a function that puts another one in its place, a
- * function that has a worker die, and whether an error says that a worker has no script.
+ * Returns the tests. The arguments are the exports of the package, its module, the class Worker, a function that replaces this
+ * class, a function that lets a worker die, and a function that returns whether an error says that a worker has no script.
  */
 export function poolTests({ createPool, PoolError, Pool, Calls, Argon2Error }, module, { Worker, setWorker, die, isMissing }) {
-  // A pool whose workers are stand-ins.
+  // Returns a pool whose workers are stand-ins.
   const make = (options, readModule = async () => module) => {
     const { workers, start } = standIns(Calls);
     return { workers, pool: new Pool({ readModule, start, size: 2 }, options).functions() };
@@ -74,7 +74,7 @@ export function poolTests({ createPool, PoolError, Pool, Calls, Argon2Error }, m
   const isRefused = (error, code) =>
     error instanceof PoolError && error.name === "PoolError" && error.code === code && error.message !== "";
 
-  // Calls a function with a list of the workers that are started meanwhile. Their script may be another one.
+  // Calls a function with a list of the workers that are started meanwhile. `script` replaces their script, if it is given.
   async function withWorkers(body, script) {
     const started = [];
     setWorker(
@@ -189,7 +189,7 @@ export function poolTests({ createPool, PoolError, Pool, Calls, Argon2Error }, m
       check(workers[1].password() === "2");
       workers[1].answer("a");
       check((await statesOf(calls)) === "WORKER_DIED done");
-      // (while it is idle no call fails)
+      // (an idle worker dies, so no call fails)
       workers[1].die();
       const next = pool.hash("3");
       check((await statesOf([next])) === "waits" && workers.length === 3 && workers[1].ends === 1);
@@ -223,7 +223,7 @@ export function poolTests({ createPool, PoolError, Pool, Calls, Argon2Error }, m
       check(workers[1].ends === 0);
       await pause(120);
       check(workers[1].ends === 1 && workers[0].ends === 0);
-      // (a call takes the worker that was used last, and starts one only if there is none)
+      // (a call uses the idle worker that was used last, and starts a worker only if none is idle)
       calls.push(pool.hash("3"));
       await pause();
       check(workers.length === 3);
@@ -307,7 +307,7 @@ export function poolTests({ createPool, PoolError, Pool, Calls, Argon2Error }, m
         const error = await thrown(() => pool.hash("x", options));
         check(error instanceof TypeError, String(Object.keys(options)), String(error));
       }
-      // (what can't be copied fails, and the pool goes on)
+      // (a call whose options can't be copied fails, and the pool goes on)
       check((await thrown(() => pool.hash("x", { secret: () => {} }))).name === "DataCloneError");
       const key = new Uint8Array(32).fill(7);
       const words = [key.subarray(8, 16), key.buffer, { ...SMALL, secret: new DataView(key.buffer, 4) }];
@@ -334,7 +334,7 @@ export function poolTests({ createPool, PoolError, Pool, Calls, Argon2Error }, m
             pool.raw("x", SALT, costs).then(() => ended.push(at)),
           );
           await Promise.all(calls);
-          // (the second worker takes what waits for the long calls of the first)
+          // (the second worker answers calls that wait while the first worker makes a long hash)
           if (size === 1) check(ended.join() === "0,1,2,3,4,5", ended);
           else check(ended.indexOf(0) > ended.indexOf(2), ended);
           check(started.length === size, started.length);

@@ -1,4 +1,4 @@
-// What is tried in node and in pages.
+// Tests that run in node and in pages.
 
 import { check, thrown } from "./checks.mjs";
 import { LOG_IN_TESTS } from "./log-in.mjs";
@@ -7,19 +7,19 @@ import { VECTOR_TESTS } from "./vectors.mjs";
 export const MODULES = ["argon2.wasm", "argon2-simd.wasm"];
 
 const SALT = "somesalt";
-// By an independent model: `password` and SALT with 256 KiB, two passes and one lane.
+// An independent model made this tag from `password` and SALT with 256 KiB, two passes and one lane.
 export const KNOWN = "9dfeb910e80bad0311fee20f9c0e2b12c17987b4cac90c2ef54d5b3021c68bfe";
 const OF_ABC = "$argon2id$v=19$m=8,t=1,p=1$c29tZXNhbHQ$LVJKYEkaeNsu5UCkG00QmN9KvYwrpueSxItaCk3nAjU";
 const OF_SECRET =
   "$argon2id$v=19$m=64,t=2,p=2,keyid=a2V5IDE,data=c29tZSBkYXRh$c29tZXNhbHQ$8Fe4gWVJpEPVFv1y5tDY+m6T9i6mEDkkKNQBGzcGzH8";
 const OF_OLD_SECRET = "$argon2id$v=19$m=64,t=2,p=2$c29tZXNhbHQ$TIwxZJX/u/uyFcujYXWbkdtyc4CJCdkl+/isYF6xVj0";
-// By Debian's command argon2 of `password` with the default costs of the npm package argon2.
+// Debian's command argon2 made this text for `password`, with the default costs of the npm package argon2.
 const OF_REFERENCE = "$argon2id$v=19$m=65536,t=3,p=4$c29tZXNhbHRzb21lc2FsdA$gduXp+Z6iReEolmbyHn5V8s1EtJzmEvZfYoY/Fn/AeI";
 const SMALL = { memory: 8, passes: 1 };
-// Long enough for turns.
+// A hash with these costs is long enough for several turns.
 const LONG = { memory: 8192, passes: 8 };
 
-// Options with a secret that is not their own.
+// Options with a secret that is not their own property.
 class Settings {
   get secret() {
     return "some secret";
@@ -29,7 +29,7 @@ const INHERITED = [new Settings(), Object.create({ secret: "some secret" }), 12,
 
 export const toHex = (bytes) => Array.from(bytes, (it) => it.toString(16).padStart(2, "0")).join("");
 
-/** The instances of modules that a function makes. */
+/** Returns the instances of modules that a function makes. */
 async function instancesOf(body) {
   const instances = [];
   const { Instance } = WebAssembly;
@@ -45,7 +45,7 @@ async function instancesOf(body) {
   return instances;
 }
 
-/** Whether the memory of an instance is clear but for its constants. */
+/** Returns whether the memory of an instance is clear, except for its constants. */
 function isClear({ exports }) {
   const bytes = new Uint8Array(exports.memory.buffer);
   for (let at = 0; at < bytes.length; at = at === 65535 ? Number(exports.__heap_base.value) : at + 1) {
@@ -213,7 +213,7 @@ const TESTS = {
     const { Instance } = WebAssembly;
     const { grow } = WebAssembly.Memory.prototype;
     const fresh = new Argon2(module);
-    // (a function, since one of them is a constructor)
+    // (this is a function, because it also replaces a constructor)
     const refuse = function () {
       throw new RangeError("refused");
     };
@@ -240,7 +240,7 @@ const TESTS = {
   },
 };
 
-/** Tries which module an entry takes, by the lengths of the one without and the one with SIMD. */
+/** Tries which module an entry loads. `lengths` has the length of the module without SIMD, and of the module with SIMD. */
 export async function tryModules(load, lengths) {
   const { compile, validate } = WebAssembly;
   const taken = [];
@@ -260,8 +260,8 @@ export async function tryModules(load, lengths) {
 }
 
 /**
- * Tries both ends of a worker's calls without a worker: an answer that nobody waits for is passed over, options whose
- * properties a post would leave out are refused, the bytes of a call are copied once, and the worker clears these copies.
+ * Tries both ends of a worker's calls without a worker. An answer that nobody waits for must be ignored. Options with properties
+ * that a post would leave out must be refused. The bytes of a call must be copied once, and the worker must clear the copies.
  */
 export async function tryCalls({ Calls, answering }) {
   const posted = [];
@@ -331,7 +331,7 @@ export async function tryWorker(start) {
   check((await thrown(() => worker.parse(text))).message === "the worker was terminated");
 }
 
-/** Tries what an entry of the package exports on modules, whose bytes are given, and then further tests. */
+/** Tries the exports of an entry of the package on each module, whose bytes `modules` contains, and then runs further tests. */
 export async function runTests(entry, modules, show, further) {
   const counts = { passed: 0, failed: 0 };
   for (const bytes of modules) {
@@ -343,7 +343,7 @@ export async function runTests(entry, modules, show, further) {
   return counts;
 }
 
-/** Counts tests that a function tries, and shows a line for each that fails. */
+/** Runs tests with a function, counts them, and shows a line for each test that fails. */
 export async function tryAll(tests, run, show, counts) {
   for (const [name, test] of Object.entries(tests)) {
     try {

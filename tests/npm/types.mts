@@ -1,4 +1,4 @@
-// What the types of the package take and refuse, by `tsc --strict` (tests/npm/run).
+// Calls that the types of the package accept, and calls that they refuse. tests/npm/run compiles them with `tsc --strict`.
 
 import { Argon2, Argon2Error, load, type Bound, type LogInAnswer, type LogInOptions, type TextOptions } from "argon2-proved";
 import { load as loadInline } from "argon2-proved/inline";

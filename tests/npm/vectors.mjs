@@ -1,11 +1,11 @@
-// Tries the cases of vectors/. In a page the server has that folder beside the page.
+// Tries the cases of vectors/. For a page the server has to serve that folder.
 
 import { ANSWERS, fromHex, inputsOf, isRight, toHex } from "../../vectors/runners/package.mjs";
 import { ABOVE_BOUND } from "./cases.mjs";
 
 const BOUND = { memory: 65536, passes: 16, lanes: 64, minLength: 4 };
 
-/** The tests of a file, each with its group. */
+/** Returns the tests of a file, each with its group. */
 async function casesOf(name) {
   const url = new URL(`../../vectors/${name}.json`, import.meta.url);
   const isFile = url.protocol === "file:";
@@ -17,7 +17,7 @@ function check(holds, test, found) {
   if (!holds) throw new Error(`case ${test.tcId}: ${found}`);
 }
 
-/** Requires each answer of the package to the cases of a file, but those that take more than a second. */
+/** Requires the right answer of the package to each case of a file, except cases that take more than a second. */
 async function tryFile(argon2, name) {
   for (const { group, test } of await casesOf(name)) {
     if (test.flags.includes("Slow")) continue;
