@@ -1,7 +1,7 @@
-// Package argon2proved hashes passwords by Argon2, under a secret and within a bound.
+// Package argon2proved hashes passwords by Argon2, under a secret key ("pepper") and within a bound.
 //
-// A hashed password is a text, which is a PHC string such as $argon2id$v=19$m=19456,t=2,p=1$SALT$HASH. The package calls the
-// functions of argon2_phc.h by cgo, and pkg-config finds their library under the name libargon2-proved.
+// A stored hash is a PHC string such as $argon2id$v=19$m=19456,t=2,p=1$SALT$TAG. Each argument text is a stored hash. The package
+// calls the functions of argon2_phc.h by cgo, and pkg-config finds their library under the name libargon2-proved.
 package argon2proved
 
 /*
@@ -42,7 +42,7 @@ static int verify(argon2p_verifier verifier, const void *secret, const void *old
 	return argon2p_verify(&verifier, text, text_length, password, length, by_old_secret);
 }
 
-// Whether a text shows other parameters, where higher costs and a longer hash do not count.
+// Returns whether a stored hash shows other parameters. Higher costs and a longer tag do not count.
 static int is_weaker(argon2p_params wanted, const void *data, const void *keyid, const char *text, size_t length)
 {
 	argon2p_shown shown = ARGON2P_SHOWN_INIT;
@@ -70,15 +70,15 @@ import (
 	"unsafe"
 )
 
-// Error is a code of argon2_phc.h. Codes without a name here are compared by their number, as Error(-14).
+// Error is a code of argon2_phc.h. Compare codes that have no name in this package by their number, such as Error(-14).
 type Error int
 
 const (
 	ErrOutOfMemory      = Error(C.ARGON2P_OUT_OF_MEMORY)       // the system has no memory for a hash
-	ErrMismatch         = Error(C.ARGON2P_MISMATCH)            // a text does not accept a password
-	ErrTextInvalid      = Error(C.ARGON2P_TEXT_INVALID)        // a text is no PHC string
-	ErrAboveBound       = Error(C.ARGON2P_ABOVE_BOUND)         // a text asks for more than the bound
-	ErrOutputOutOfBound = Error(C.ARGON2P_OUTPUT_OUT_OF_BOUND) // the hash in a text is shorter or longer than the bound
+	ErrMismatch         = Error(C.ARGON2P_MISMATCH)            // a stored hash does not accept a password
+	ErrTextInvalid      = Error(C.ARGON2P_TEXT_INVALID)        // a stored hash is no PHC string
+	ErrAboveBound       = Error(C.ARGON2P_ABOVE_BOUND)         // a stored hash asks for more than the bound
+	ErrOutputOutOfBound = Error(C.ARGON2P_OUTPUT_OUT_OF_BOUND) // the tag of a stored hash is shorter or longer than the bound allows
 )
 
 // ErrEmptyPassword is the error of a password of no bytes.
@@ -88,7 +88,7 @@ func (e Error) Error() string {
 	return "argon2: " + C.GoString(C.argon2p_error_message(C.int(e)))
 }
 
-// Bound is the most that a text may cost that is verified, and the length of its hash. A field that is 0 stands for its default.
+// Bound is the most that verifying a stored hash may cost, and the lengths of its tag. A field that is 0 means its default.
 type Bound struct {
 	Memory     uint32 // KiB, by default 2097152
 	Passes     uint32 // by default 64
@@ -97,27 +97,27 @@ type Bound struct {
 	MaxHashLen uint32 // bytes, by default 64
 }
 
-// Options are what new texts cost and contain, and which texts are accepted. A number that is 0 stands for its default.
+// Options are what new hashes cost and contain, and which stored hashes are accepted. A number that is 0 means its default.
 type Options struct {
 	Memory    uint32 // KiB, by default 19456
 	Passes    uint32 // by default 2
 	Lanes     uint32 // by default 1
-	HashLen   uint32 // bytes of the hash in a new text, by default 32
-	Secret    []byte // enters each hash, and is in no text
-	OldSecret []byte // is tried if Secret does not accept, unless it is nil; []byte{} accepts texts without a secret
-	KeyID     []byte // at most 8 bytes that new texts show, to name the secret
-	Data      []byte // at most 32 bytes that new texts show, and that enter their hashes
-	Bound     Bound  // of texts that are verified
+	HashLen   uint32 // bytes of the tag of a new hash, by default 32
+	Secret    []byte // the secret key, which enters each tag, and is in no stored hash
+	OldSecret []byte // is tried if Secret does not accept, unless it is nil; []byte{} accepts hashes without a secret
+	KeyID     []byte // at most 8 bytes that new hashes show, to name the secret
+	Data      []byte // at most 32 bytes that new hashes show, and that enter their tags
+	Bound     Bound  // the bound on stored hashes that are verified
 }
 
-// A Hasher makes and verifies texts. Any number of goroutines may use one at the same time.
+// A Hasher makes and verifies stored hashes. Any number of goroutines may use one Hasher at the same time.
 type Hasher struct {
 	params                         C.argon2p_params
 	verifier                       C.argon2p_verifier
 	secret, oldSecret, keyID, data []byte
 }
 
-// New returns a Hasher, which has copies of the bytes in the options, or why the options are not valid.
+// New returns a Hasher, which contains copies of the bytes in the options, or why the options are not valid.
 func New(options Options) (*Hasher, error) {
 	copied := func(bytes []byte) []byte { return append([]byte{}, bytes...) }
 	h := &Hasher{
@@ -159,7 +159,7 @@ func New(options Options) (*Hasher, error) {
 	return h, nil
 }
 
-// Hash returns the text of a password, with a salt of 16 bytes that the system draws.
+// Hash returns the hash of a password, to be stored. The system draws its salt of 16 bytes.
 func (h *Hasher) Hash(password []byte) (string, error) {
 	if len(password) == 0 {
 		return "", ErrEmptyPassword
@@ -173,15 +173,15 @@ func (h *Hasher) Hash(password []byte) (string, error) {
 	return C.GoString(&text[0]), nil
 }
 
-// Verify returns nil if a text accepts a password, ErrMismatch if it does not, or why the text is not verified.
+// Verify returns nil if a stored hash accepts a password, ErrMismatch if it does not, or why the stored hash can't be verified.
 func (h *Hasher) Verify(text string, password []byte) error {
 	_, err := h.verify(text, password)
 	return err
 }
 
-// LogIn verifies, and returns the text to store from now on. That is a new one if the old secret has accepted, or if the text is
-// weaker than new ones: it has another algorithm, version, KeyID or Data, a lower cost, or a shorter hash. If no new one can be
-// made, the text stays.
+// LogIn verifies a password, and returns the hash to store from now on. LogIn makes a new hash if the old secret accepted the
+// password, or if the stored hash is weaker than new hashes: it has another algorithm, version, KeyID or Data, a lower cost, or a
+// shorter tag. Otherwise, or if no new hash can be made, the stored hash stays.
 func (h *Hasher) LogIn(text string, password []byte) (string, error) {
 	byOldSecret, err := h.verify(text, password)
 	if err != nil {
@@ -196,7 +196,7 @@ func (h *Hasher) LogIn(text string, password []byte) (string, error) {
 	return text, nil
 }
 
-// verify also tells whether the old secret has accepted.
+// verify also returns whether the old secret accepted the password.
 func (h *Hasher) verify(text string, password []byte) (bool, error) {
 	if len(password) == 0 {
 		return false, ErrEmptyPassword
@@ -211,7 +211,7 @@ func (h *Hasher) verify(text string, password []byte) (bool, error) {
 	return byOldSecret != 0, nil
 }
 
-// start returns where bytes begin. No bytes begin nowhere.
+// start returns the address of the first byte, or nil if there are no bytes.
 func start(bytes []byte) unsafe.Pointer {
 	if len(bytes) == 0 {
 		return nil
@@ -219,7 +219,7 @@ func start(bytes []byte) unsafe.Pointer {
 	return unsafe.Pointer(&bytes[0])
 }
 
-// characters returns a copy of a text for C, with a zero byte after it, and the length of the text.
+// characters returns a copy of a stored hash for C, with a zero byte after it, and the length of the stored hash.
 func characters(text string) (*C.char, C.size_t) {
 	bytes := append([]byte(text), 0)
 	return (*C.char)(unsafe.Pointer(&bytes[0])), C.size_t(len(text))

@@ -27,7 +27,7 @@ func made(t *testing.T, options Options) *Hasher {
 	return h
 }
 
-// text returns the text of a password, which must be made.
+// text returns the hash of a password, and fails the test if there is none.
 func text(t *testing.T, h *Hasher, password string) string {
 	t.Helper()
 	made, err := h.Hash([]byte(password))
@@ -37,7 +37,7 @@ func text(t *testing.T, h *Hasher, password string) string {
 	return made
 }
 
-// The tags of RFC 9106, sections 5.1 to 5.3, as texts.
+// The tags of RFC 9106, sections 5.1 to 5.3, in stored hashes.
 func TestStandard(t *testing.T) {
 	tags := map[string]string{
 		"argon2d":  "512b391b6f1162975371d30919734294f868e3be3984f3c1a13a4db9fabe4acb",
@@ -86,7 +86,7 @@ func TestHash(t *testing.T) {
 	if !strings.HasPrefix(long, "$argon2id$v=19$m=64,t=1,p=2,keyid=MTIzNDU2Nzg,data=ZGRk") || len(long) < 200 {
 		t.Error(long)
 	}
-	// (bytes that stand beside a pointer)
+	// (Go checks the bytes that C gets for pointers, and these are beside a pointer)
 	var beside struct {
 		pointer  *int
 		password [3]byte
@@ -112,7 +112,7 @@ func TestEmptyPassword(t *testing.T) {
 }
 
 func TestRefused(t *testing.T) {
-	// (numbers are those of argon2_phc.h)
+	// (the numbers are codes of argon2_phc.h)
 	for _, it := range []struct {
 		options Options
 		err     Error
@@ -161,7 +161,7 @@ func TestRefused(t *testing.T) {
 	}
 }
 
-// A secret changes from none to one, and to another one, for all users but the last.
+// A service begins without a secret, sets one, and changes it. All users log in after each step, except the last user.
 func TestRotation(t *testing.T) {
 	first, second := []byte("first"), []byte("second")
 	steps := []*Hasher{
@@ -171,7 +171,7 @@ func TestRotation(t *testing.T) {
 		made(t, Options{Secret: second, OldSecret: first, KeyID: []byte("2")}),
 		made(t, Options{Secret: []byte("second"), KeyID: []byte("2")}),
 	}
-	// (the bytes are the caller's again)
+	// (the caller may change its bytes now)
 	copy(first, "-----")
 	copy(second, "------")
 	password := func(user int) []byte { return []byte{'a', byte('0' + user)} }
@@ -227,13 +227,13 @@ func TestRenewal(t *testing.T) {
 		if !it.stays && !strings.HasPrefix(fresh, "$argon2id$v=19$m=64,t=2,p=2,keyid=MQ,data=Mg$") {
 			t.Error(fresh)
 		}
-		// (there is no memory for a new one)
+		// (there is no memory for a new hash)
 		unable := made(t, Options{Memory: 1<<32 - 1, KeyID: []byte("1"), Data: []byte("2")})
 		if kept, err := unable.LogIn(stored, []byte("abc")); err != nil || kept != stored {
 			t.Error(kept, err)
 		}
 	}
-	// (by the reference, of another version and of another algorithm)
+	// (the reference made these, one of another version and one of another algorithm)
 	for _, stored := range []string{
 		"$argon2id$v=16$m=8,t=1,p=1$c29tZXNhbHQ$DqgrnUaHA06f/MATrDPHREFoofxPxUtIFMg5c76lJoc",
 		"$argon2i$v=19$m=8,t=1,p=1$c29tZXNhbHQ$L4xqJr9CL9NvnqcqeOEz+pE/JoSz2prh9Y47/5xMUJA",

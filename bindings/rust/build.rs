@@ -1,13 +1,13 @@
-//! Finds the static libargon2 that the package is linked with, the first of these: in the folder that `ARGON2_DIR` names, in that
-//! of pkg-config, and in the folder `lib` beside the package's, as in an unpacked release or by `build/libargon2 lib` in the
-//! repository. `cargo build -vv` shows which one it is.
+//! Finds the static libargon2 with which the package is linked. It is the first library in these folders: the folder that
+//! `ARGON2_DIR` names; the folder that pkg-config names; and the folder `lib` beside the package's folder, which an unpacked
+//! release contains. `cargo build -vv` shows which library it is.
 
 use std::env;
 use std::path::{Path, PathBuf};
 use std::process::Command;
 
 const FILE: &str = "libargon2.a";
-/// The levels of x86-64 above the lowest, the best first, with features that no lower level has.
+/// The levels of x86-64 above the lowest level, from the best down, with features that no lower level has.
 const LEVELS: [(&str, &[&str]); 2] = [
     (
         "x86-64-v4",
@@ -35,7 +35,7 @@ fn main() {
     }
 }
 
-/// The library, or why there is none.
+/// Returns the library, or why there is none.
 fn library() -> Result<PathBuf, String> {
     if let Some(named) = env::var_os("ARGON2_DIR") {
         return library_in(Path::new(&named)).map_err(|why| format!("ARGON2_DIR: {why}"));
@@ -56,7 +56,7 @@ fn library() -> Result<PathBuf, String> {
     ))
 }
 
-/// The library in a folder, that for the target's processors if there are several.
+/// Returns the library in a folder. If there are several, it is the library for the target's processors.
 fn library_in(folder: &Path) -> Result<PathBuf, String> {
     let features = variable("CARGO_CFG_TARGET_FEATURE");
     let has = |name: &&str| features.split(',').any(|feature| feature == *name);
@@ -77,7 +77,7 @@ fn library_in(folder: &Path) -> Result<PathBuf, String> {
     Ok(path)
 }
 
-/// The folder of libraries that pkg-config names.
+/// Returns the folder of libraries that pkg-config names.
 fn pkg_config() -> Result<PathBuf, String> {
     if variable("HOST") != variable("TARGET") {
         return Err("pkg-config is not asked for another target".to_owned());
@@ -93,7 +93,7 @@ fn pkg_config() -> Result<PathBuf, String> {
     Ok(folder.into())
 }
 
-/// A variable that cargo sets.
+/// Returns a variable that cargo sets.
 fn variable(name: &str) -> String {
     env::var(name).unwrap_or_default()
 }

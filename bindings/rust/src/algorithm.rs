@@ -5,21 +5,21 @@ use crate::{Error, Result};
 use std::fmt::{self, Display};
 use std::str::FromStr;
 
-/// The identifier of Argon2d in a PHC text.
+/// The identifier of Argon2d in a PHC string.
 pub const ARGON2D_IDENT: Ident = Ident::literal("argon2d");
-/// The identifier of Argon2i in a PHC text.
+/// The identifier of Argon2i in a PHC string.
 pub const ARGON2I_IDENT: Ident = Ident::literal("argon2i");
-/// The identifier of Argon2id in a PHC text.
+/// The identifier of Argon2id in a PHC string.
 pub const ARGON2ID_IDENT: Ident = Ident::literal("argon2id");
 
 /// A variant of Argon2.
 #[derive(Clone, Copy, Debug, Default, Eq, Ord, PartialEq, PartialOrd)]
 pub enum Algorithm {
-    /// Which blocks are read depends on the password everywhere.
+    /// Everywhere the password decides which blocks are read.
     Argon2d = 0,
-    /// Which blocks are read never depends on the password.
+    /// The password never decides which blocks are read.
     Argon2i = 1,
-    /// As Argon2i in the first half of the first pass, then as Argon2d.
+    /// Reads blocks like Argon2i in the first half of the first pass, and then like Argon2d.
     #[default]
     Argon2id = 2,
 }
@@ -27,7 +27,7 @@ pub enum Algorithm {
 impl Algorithm {
     const ALL: [Algorithm; 3] = [Algorithm::Argon2d, Algorithm::Argon2i, Algorithm::Argon2id];
 
-    /// The variant with this identifier.
+    /// Returns the variant with this identifier.
     ///
     /// # Errors
     /// [`Error::AlgorithmInvalid`] if there is none.
@@ -45,7 +45,7 @@ impl Algorithm {
         }
     }
 
-    /// The identifier of the variant, as of PHC texts.
+    /// The identifier of the variant in PHC strings.
     #[must_use]
     pub const fn ident(&self) -> Ident {
         match self {
@@ -68,7 +68,7 @@ impl Display for Algorithm {
     }
 }
 
-/// As [`Algorithm::new`].
+/// Does what [`Algorithm::new`] does.
 impl FromStr for Algorithm {
     type Err = Error;
 
@@ -78,7 +78,7 @@ impl FromStr for Algorithm {
     }
 }
 
-/// As [`Algorithm::new`], with the error [`password_hash::Error::Algorithm`].
+/// Does what [`Algorithm::new`] does, with the error [`password_hash::Error::Algorithm`].
 impl TryFrom<&str> for Algorithm {
     type Error = password_hash::Error;
 

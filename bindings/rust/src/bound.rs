@@ -1,10 +1,10 @@
-//! What a stored text may ask for, and whether it has to be renewed.
+//! A bound on what a stored hash may ask for.
 
 use crate::password_hash;
 use crate::{Argon2, sys};
 use std::fmt::{self, Display};
 
-/// The most that one stored text may ask for.
+/// The most that a stored hash may ask for.
 #[derive(Clone, Copy, Debug, Eq, PartialEq)]
 pub struct Bound {
     /// Blocks of 1024 bytes.
@@ -16,19 +16,20 @@ pub struct Bound {
 }
 
 impl Bound {
-    /// The bound that no text is above.
+    /// The bound that no stored hash is above.
     pub(crate) const LARGEST: Self = Self {
         m_cost: u32::MAX,
         t_cost: u32::MAX,
         p_cost: u32::MAX,
     };
 
-    /// Ok if a text asks for no more than this, and accepts the password under the secret of `argon2`.
+    /// Verifies a password by the stored hash `text`. It is Ok if the stored hash asks for no more than this bound, and accepts
+    /// the password under the secret key ("pepper") of `argon2`.
     ///
     /// # Errors
     /// The first of these that holds:
-    /// - [`BoundError::Refused`] with the error of reading the text or its parameters.
-    /// - [`BoundError::TooExpensive`] if a cost is above the bound, before any memory is asked for.
+    /// - [`BoundError::Refused`] with the error of reading the stored hash or its parameters.
+    /// - [`BoundError::TooExpensive`] if a cost is above the bound, before any memory is requested.
     /// - [`BoundError::Refused`] with the error of `verify_password`.
     pub fn verify(
         &self,
@@ -39,12 +40,13 @@ impl Bound {
         sys::verify(argon2, None, password, text, self).map(drop)
     }
 
-    /// The same while secrets change: a text that does not accept the password under the secret of `argon2` is tried under an
-    /// older one, which has no bytes if older texts have no secret. Whether that one accepted it, so that a fresh text is due.
+    /// Verifies a password while the secret changes. If the stored hash does not accept the password under the secret of
+    /// `argon2`, this tries `old_secret`. An old secret of no bytes is for hashes that were stored without a secret. Returns
+    /// whether the old secret accepted the password. In that case store a new hash.
     ///
     /// # Errors
-    /// Those of [`Bound::verify`], of both secrets. An old secret above 4294967295 bytes is refused by
-    /// [`ParamsInvalid`](password_hash::Error::ParamsInvalid) before memory is asked for.
+    /// The errors of [`Bound::verify`], of both secrets. An old secret above 4294967295 bytes is refused by
+    /// [`ParamsInvalid`](password_hash::Error::ParamsInvalid) before memory is requested.
     pub fn verify_under_both(
         &self,
         argon2: &Argon2<'_>,
@@ -56,12 +58,12 @@ impl Bound {
     }
 }
 
-/// Why a text is above a bound, or does not accept the password.
+/// Why a stored hash does not accept a password within a bound.
 #[derive(Clone, Copy, Debug, Eq, PartialEq)]
 pub enum BoundError {
-    /// The text asks for more than the bound.
+    /// The stored hash asks for more than the bound.
     TooExpensive,
-    /// Reading the text or verifying by it fails with this error.
+    /// Reading the stored hash, or verifying the password by it, fails with this error.
     Refused(password_hash::Error),
 }
 

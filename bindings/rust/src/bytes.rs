@@ -1,4 +1,4 @@
-//! Bytes of at most a number, kept in place.
+//! Bytes up to a fixed number, which are kept in place.
 
 use std::cmp::Ordering;
 use std::fmt;
@@ -18,7 +18,7 @@ impl<const N: usize> Bytes<N> {
         len: 0,
     };
 
-    /// These bytes, or `None` if they are too many.
+    /// Returns these bytes, or `None` if there are more than `N`.
     pub(crate) fn new(from: &[u8]) -> Option<Self> {
         let mut bytes = [0; N];
         bytes.get_mut(..from.len())?.copy_from_slice(from);
@@ -28,7 +28,7 @@ impl<const N: usize> Bytes<N> {
         })
     }
 
-    /// These bytes, of which those behind the first `N` are left out.
+    /// Returns the first `N` of these bytes, or all if there are fewer.
     pub(crate) const fn literal(from: &[u8]) -> Self {
         let mut it = Self::EMPTY;
         while it.len < from.len() && it.len < N {
@@ -43,7 +43,7 @@ impl<const N: usize> Bytes<N> {
         &self.bytes[..self.len]
     }
 
-    /// How many they are.
+    /// The number of bytes.
     pub(crate) const fn len(&self) -> usize {
         self.len
     }

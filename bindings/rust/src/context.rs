@@ -10,7 +10,7 @@ use std::fmt;
 #[cfg(doc)]
 use crate::Error;
 
-/// A hasher: a variant, a version, parameters, and a secret if there is one.
+/// A hasher, which has a variant, a version, parameters, and possibly a secret key ("pepper").
 #[derive(Clone, Default)]
 pub struct Argon2<'key> {
     pub(crate) algorithm: Algorithm,
@@ -31,7 +31,7 @@ impl fmt::Debug for Argon2<'_> {
 }
 
 impl<'key> Argon2<'key> {
-    /// A hasher without a secret.
+    /// Makes a hasher without a secret.
     #[must_use]
     pub fn new(algorithm: Algorithm, version: Version, params: Params) -> Self {
         Self {
@@ -42,7 +42,7 @@ impl<'key> Argon2<'key> {
         }
     }
 
-    /// A hasher with a secret, which an empty secret is not.
+    /// Makes a hasher with a secret. An empty secret gives the same tags as no secret.
     ///
     /// # Errors
     /// [`Error::SecretTooLong`](crate::Error::SecretTooLong) if it is longer than [`MAX_SECRET_LEN`](crate::MAX_SECRET_LEN).
@@ -73,20 +73,21 @@ impl<'key> Argon2<'key> {
     /// # Errors
     /// The first of these that holds; `out` is then as before:
     /// - [`Error::OutputTooShort`] if `out` is shorter than the parameters' output length, or than 4 bytes if they name none.
-    /// - [`Error::OutputTooLong`] if it is longer than that, or than 4294967295 bytes.
+    /// - [`Error::OutputTooLong`] if `out` is longer than that output length, or than 4294967295 bytes.
     /// - [`Error::PwdTooLong`] if the password is longer than [`MAX_PWD_LEN`](crate::MAX_PWD_LEN).
     /// - [`Error::SaltTooShort`] if the salt is shorter than [`MIN_SALT_LEN`](crate::MIN_SALT_LEN).
     /// - [`Error::SaltTooLong`] if it is longer than [`MAX_SALT_LEN`](crate::MAX_SALT_LEN).
-    /// - [`Error::OutOfMemory`] if a request for memory was refused.
+    /// - [`Error::OutOfMemory`] if the system refused memory.
     pub fn hash_password_into(&self, pwd: &[u8], salt: &[u8], out: &mut [u8]) -> Result<()> {
         sys::tag(self, pwd, salt, out, None)
     }
 
-    /// Fills `out` so on memory that is lent, of which [`Params::block_count`] blocks are used.
+    /// Fills `out` with the tag of a password and a salt, on memory that you supply. The call uses [`Params::block_count`]
+    /// blocks.
     ///
     /// # Errors
-    /// As [`Argon2::hash_password_into`], with [`Error::MemoryTooLittle`] if there are fewer blocks in place of
-    /// [`Error::OutOfMemory`]; `out` and the memory are then as before.
+    /// The errors of [`Argon2::hash_password_into`], except that [`Error::MemoryTooLittle`] replaces [`Error::OutOfMemory`], and
+    /// means that there are fewer blocks. With an error `out` and the memory are as before.
     pub fn hash_password_into_with_memory(
         &self,
         pwd: &[u8],
@@ -97,11 +98,11 @@ impl<'key> Argon2<'key> {
         sys::tag(self, pwd, salt, out, Some(memory_blocks.as_mut()))
     }
 
-    /// Fills lent memory as for an output of 0 bytes, lane by lane, and makes no tag.
+    /// Fills memory that you supply as for an output of 0 bytes, lane by lane, and makes no tag.
     ///
     /// # Errors
     /// The first of these that holds; the memory is then as before:
-    /// - [`Error::PwdTooLong`], [`Error::SaltTooShort`], [`Error::SaltTooLong`] as of [`Argon2::hash_password_into`].
+    /// - [`Error::PwdTooLong`], [`Error::SaltTooShort`], [`Error::SaltTooLong`] as for [`Argon2::hash_password_into`].
     /// - [`Error::MemoryTooLittle`] if there are fewer than [`Params::block_count`] blocks.
     pub fn fill_memory(
         &self,
@@ -112,11 +113,12 @@ impl<'key> Argon2<'key> {
         sys::fill(self, pwd, salt, memory_blocks.as_mut())
     }
 
-    /// Whether a stored text shows another algorithm, version, parameter or length of its hash than this hasher gives to a new
-    /// one. The secret is not looked at. A login whose text was accepted then stores a fresh one.
+    /// Returns whether the stored hash `text` shows another algorithm, version, parameter or length of its tag than a new hash of
+    /// this hasher. The call does not look at the secret. If a stored hash accepts a password and this returns true, store a new
+    /// hash.
     ///
     /// # Errors
-    /// That of reading the text or its settings, as of `verify_password`.
+    /// The error of reading the stored hash or its settings, as for `verify_password`.
     pub fn needs_rehash(&self, text: &str) -> password_hash::Result<bool> {
         sys::needs_rehash(self, text)
     }
@@ -134,7 +136,7 @@ impl From<&Params> for Argon2<'_> {
     }
 }
 
-/// By [`Argon2::hash_password_into`].
+/// Derives keys by [`Argon2::hash_password_into`].
 impl Kdf for Argon2<'_> {
     fn derive_key(&self, secret: &[u8], salt: &[u8], out: &mut [u8]) -> kdf::Result<()> {
         Ok(self.hash_password_into(secret, salt, out)?)
@@ -143,10 +145,11 @@ impl Kdf for Argon2<'_> {
 
 impl Pbkdf for Argon2<'_> {}
 
-/// Refuses in this order: a salt of fewer than 8 or more than 48 bytes is
-/// [`SaltInvalid`](password_hash::Error::SaltInvalid), an output length above 64
-/// [`OutputSize`](password_hash::Error::OutputSize), and then as [`Argon2::hash_password_into`]. Without an output length
-/// the hash has 32 bytes.
+/// Makes stored hashes. If the parameters have no output length, the tag has 32 bytes. The errors are, in this order:
+///
+/// - [`SaltInvalid`](password_hash::Error::SaltInvalid) if the salt has fewer than 8 or more than 48 bytes.
+/// - [`OutputSize`](password_hash::Error::OutputSize) if the output length is above 64.
+/// - the errors of [`Argon2::hash_password_into`].
 impl PasswordHasher<PasswordHash> for Argon2<'_> {
     fn hash_password_with_salt(
         &self,
@@ -157,10 +160,11 @@ impl PasswordHasher<PasswordHash> for Argon2<'_> {
     }
 }
 
-/// Hashes under the secret of `self`, by Argon2id if no identifier is given, at version 0x13 if none is given.
+/// Hashes under the secret of `self`. If no identifier is given, it hashes by Argon2id, and if no version is given, by version
+/// 0x13.
 ///
 /// Refuses an unknown identifier by [`Algorithm`](password_hash::Error::Algorithm), then an unknown version by
-/// [`Version`](password_hash::Error::Version), then as `hash_password_with_salt`.
+/// [`Version`](password_hash::Error::Version). Then the errors are the errors of `hash_password_with_salt`.
 impl CustomizedPasswordHasher<PasswordHash> for Argon2<'_> {
     type Params = Params;
 
@@ -182,27 +186,28 @@ impl CustomizedPasswordHasher<PasswordHash> for Argon2<'_> {
     }
 }
 
-/// Verifies under the secret of `self` and what the text says. Refuses by the first of these that holds:
+/// Verifies a password by a stored hash, under the secret of `self`. The error is the first of these that holds:
 ///
-/// - [`EncodingInvalid`](password_hash::Error::EncodingInvalid): the text is outside the grammar.
-/// - [`PasswordInvalid`](password_hash::Error::PasswordInvalid): there is no salt or no hash.
+/// - [`EncodingInvalid`](password_hash::Error::EncodingInvalid): the stored hash is outside the grammar.
+/// - [`PasswordInvalid`](password_hash::Error::PasswordInvalid): there is no salt or no tag.
 /// - the error of its [`Params`].
 /// - [`Algorithm`](password_hash::Error::Algorithm): no variant has the identifier.
-/// - [`Version`](password_hash::Error::Version): the version is neither 16 nor 19. A text without one is of version 16.
-/// - [`OutOfMemory`](password_hash::Error::OutOfMemory): a request for memory was refused.
-/// - [`PasswordInvalid`](password_hash::Error::PasswordInvalid): the password does not have the hash.
+/// - [`Version`](password_hash::Error::Version): the version is neither 16 nor 19. A stored hash without a version is of
+///   version 16.
+/// - [`OutOfMemory`](password_hash::Error::OutOfMemory): the system refused memory.
+/// - [`PasswordInvalid`](password_hash::Error::PasswordInvalid): the password does not have this tag.
 ///
-/// A text may ask for up to 4 TiB: [`Bound::verify`] takes the most that it may ask for.
+/// A stored hash may ask for up to 4 TiB of memory. To bound what it may ask for, call [`Bound::verify`].
 impl PasswordVerifier<str> for Argon2<'_> {
     fn verify_password(&self, password: &[u8], hash: &str) -> password_hash::Result<()> {
         self.verify_password(password, &PasswordHash::new(hash)?)
     }
 }
 
-/// As for the text that says the same.
+/// Verifies a password by the PHC string that this hash prints.
 impl PasswordVerifier<PasswordHash> for Argon2<'_> {
     fn verify_password(&self, password: &[u8], hash: &PasswordHash) -> password_hash::Result<()> {
-        // (the library looks at a text's parameters first)
+        // (the library checks the parameters of a stored hash first)
         if hash.salt.is_none() || hash.hash.is_none() {
             return Err(password_hash::Error::PasswordInvalid);
         }

@@ -6,20 +6,20 @@ use std::fmt::{self, Display};
 /// A result with [`Error`].
 pub type Result<T> = std::result::Result<T, Error>;
 
-/// Why hashing, or making a value, fails.
+/// Why a call that hashes or makes a value fails.
 #[derive(Clone, Copy, Debug, Eq, PartialEq)]
 pub enum Error {
     /// The associated data is too long.
     AdTooLong,
     /// No variant has the identifier.
     AlgorithmInvalid,
-    /// A text is not the Base64 of such bytes.
+    /// A string is not the Base64 of a value.
     B64Encoding(B64Error),
     /// The key identifier is too long.
     KeyIdTooLong,
-    /// The memory cost is too small, or the lent memory has too few blocks.
+    /// The memory cost is too small, or the memory of the caller has too few blocks.
     MemoryTooLittle,
-    /// No call returns it.
+    /// No call returns this error.
     MemoryTooMuch,
     /// The output is too short.
     OutputTooShort,
@@ -41,7 +41,7 @@ pub enum Error {
     TimeTooSmall,
     /// No version has the number.
     VersionInvalid,
-    /// A request for memory was refused.
+    /// The system refused memory.
     OutOfMemory,
 }
 
@@ -78,12 +78,12 @@ impl std::error::Error for Error {
     }
 }
 
-/// Why a text is not the Base64 of such bytes.
+/// Why a string is not the Base64 of a value.
 #[derive(Clone, Copy, Debug, Eq, PartialEq)]
 pub enum B64Error {
     /// It is not the Base64 of any bytes.
     InvalidEncoding,
-    /// It is longer than the Base64 of so many bytes.
+    /// It is longer than the Base64 of the most bytes that the value may have.
     InvalidLength,
 }
 

@@ -1,4 +1,4 @@
-//! Keys from passwords.
+//! Derives keys from passwords.
 
 use std::fmt::{self, Display};
 
@@ -22,7 +22,7 @@ pub trait Kdf {
     /// Fills `out` with a key that is derived from `secret` and `salt`.
     ///
     /// # Errors
-    /// [`Error`] if it can't; `out` is then as before.
+    /// [`Error`] if there is no key; `out` is then as before.
     fn derive_key(&self, secret: &[u8], salt: &[u8], out: &mut [u8]) -> Result<()>;
 }
 

@@ -43,7 +43,7 @@ impl Params {
     pub const MAX_KEYID_LEN: usize = 8;
     /// The most bytes of associated data.
     pub const MAX_DATA_LEN: usize = 32;
-    /// The bytes of a hash in a text if the parameters name no output length.
+    /// The bytes of the tag in a stored hash if the parameters name no output length.
     pub const DEFAULT_OUTPUT_LEN: usize = 32;
     /// The fewest bytes of an output.
     pub const MIN_OUTPUT_LEN: usize = 4;
@@ -60,8 +60,9 @@ impl Params {
         output_len: None,
     };
 
-    /// Parameters without a key identifier and associated data: blocks of 1024 bytes, passes, lanes, and the length of
-    /// an output, any if it is `None`.
+    /// Makes parameters without a key identifier and associated data. `m_cost` is the number of blocks of 1024 bytes, `t_cost`
+    /// the number of passes, and `p_cost` the number of lanes. An output has the length `output_len`, or any length if it is
+    /// `None`.
     ///
     /// # Errors
     /// The first of these that holds:
@@ -83,7 +84,7 @@ impl Params {
         })
     }
 
-    /// How many blocks of 1024 bytes are asked for.
+    /// The number of blocks of 1024 bytes that the parameters ask for.
     #[must_use]
     pub const fn m_cost(&self) -> u32 {
         self.m_cost
@@ -101,7 +102,7 @@ impl Params {
         self.p_cost
     }
 
-    /// The key identifier, which stands in texts and changes no hash.
+    /// The key identifier, which stored hashes show, and which changes no tag.
     #[must_use]
     pub fn keyid(&self) -> &[u8] {
         self.keyid.as_bytes()
@@ -113,13 +114,13 @@ impl Params {
         self.data.as_bytes()
     }
 
-    /// The length of an output in bytes; `None` if any will do.
+    /// The length of an output in bytes, or `None` if an output may have any length.
     #[must_use]
     pub const fn output_len(&self) -> Option<usize> {
         self.output_len
     }
 
-    /// How many blocks of 1024 bytes are filled: the largest multiple of four times the lanes up to `m_cost`.
+    /// The number of blocks of 1024 bytes that a hash fills. It is the largest multiple of four times the lanes up to `m_cost`.
     #[must_use]
     pub const fn block_count(&self) -> usize {
         (self.m_cost - self.m_cost % (4 * self.p_cost)) as usize
@@ -132,7 +133,7 @@ impl Default for Params {
     }
 }
 
-/// As a list of a PHC text has them: `m=..,t=..,p=..`, then `,keyid=..` and `,data=..` if they are not empty.
+/// Prints the parameter list of a PHC string: `m=..,t=..,p=..`, then `,keyid=..` and `,data=..` if they are not empty.
 impl Display for Params {
     fn fmt(&self, f: &mut fmt::Formatter<'_>) -> fmt::Result {
         let text = phc::list_text(self).map_err(|_| fmt::Error)?;
@@ -143,7 +144,7 @@ impl Display for Params {
 /// Reads a parameter list, which names no output length.
 ///
 /// # Errors
-/// [`ParamsInvalid`](password_hash::Error::ParamsInvalid) if it is no list, else as from a [`ParamsString`].
+/// [`ParamsInvalid`](password_hash::Error::ParamsInvalid) if it is no list, and otherwise the errors of a [`ParamsString`].
 impl FromStr for Params {
     type Err = password_hash::Error;
 
@@ -152,12 +153,12 @@ impl FromStr for Params {
     }
 }
 
-/// The parameters that a list shows, which name no output length.
+/// Reads the parameters of a list, which name no output length.
 ///
 /// # Errors
 /// The first of these that holds:
-/// - of the first item that is refused, [`ParamInvalid`](password_hash::Error::ParamInvalid) with its name, or
-///   [`ParamsInvalid`](password_hash::Error::ParamsInvalid) if there is no such parameter.
+/// - [`ParamInvalid`](password_hash::Error::ParamInvalid) with the name of the first item that is refused, or
+///   [`ParamsInvalid`](password_hash::Error::ParamsInvalid) if there is no parameter of that name.
 /// - [`ParamsInvalid`](password_hash::Error::ParamsInvalid) if `m`, `t` or `p` is missing.
 /// - the error of [`Params::new`].
 impl TryFrom<&ParamsString> for Params {
@@ -185,10 +186,10 @@ impl TryFrom<&ParamsString> for Params {
     }
 }
 
-/// The parameters that a text shows. Their output length is that of its hash, if it has one.
+/// Reads the parameters of a PHC string. Their output length is the length of its tag, if it has a tag.
 ///
 /// # Errors
-/// As of its list.
+/// The errors of its parameter list.
 impl TryFrom<&PasswordHash> for Params {
     type Error = password_hash::Error;
 
@@ -219,7 +220,7 @@ impl TryFrom<Params> for ParamsString {
     }
 }
 
-/// Makes the type of a parameter that has bytes.
+/// Makes the type of a parameter whose value is bytes.
 macro_rules! byte_list {
     ($(#[$doc:meta])* $name:ident, $max:expr, $error:expr) => {
         $(#[$doc])*
@@ -233,7 +234,7 @@ macro_rules! byte_list {
             /// No bytes.
             pub const EMPTY: Self = Self(Bytes::EMPTY);
 
-            /// These bytes.
+            /// Makes a value of these bytes.
             ///
             /// # Errors
             #[doc = concat!("[`", stringify!($error), "`] if they are more than ", stringify!($max), ".")]
@@ -241,11 +242,11 @@ macro_rules! byte_list {
                 Bytes::new(bytes).map(Self).ok_or($error)
             }
 
-            /// The bytes whose Base64 a text is.
+            /// Reads the bytes from their Base64.
             ///
             /// # Errors
-            /// [`Error::B64Encoding`] with [`B64Error::InvalidLength`] if the text is longer than the longest Base64 of such
-            /// bytes, or with [`B64Error::InvalidEncoding`] if it is not the Base64 of any bytes.
+            /// [`Error::B64Encoding`] with [`B64Error::InvalidLength`] if `text` is longer than the Base64 of the most bytes, or
+            /// with [`B64Error::InvalidEncoding`] if it is not the Base64 of any bytes.
             pub fn from_b64(text: &str) -> Result<Self> {
                 if text.len() > (4 * Self::MAX_LEN).div_ceil(3) {
                     return Err(B64Error::InvalidLength.into());
@@ -279,7 +280,7 @@ macro_rules! byte_list {
             }
         }
 
-        #[doc = concat!("As [`", stringify!($name), "::from_b64`].")]
+        #[doc = concat!("Does what [`", stringify!($name), "::from_b64`] does.")]
         impl FromStr for $name {
             type Err = Error;
 
@@ -288,7 +289,7 @@ macro_rules! byte_list {
             }
         }
 
-        #[doc = concat!("As [`", stringify!($name), "::new`].")]
+        #[doc = concat!("Does what [`", stringify!($name), "::new`] does.")]
         impl TryFrom<&[u8]> for $name {
             type Error = Error;
 
@@ -300,12 +301,12 @@ macro_rules! byte_list {
 }
 
 byte_list! {
-    /// The identifier of a key, which stands in texts and changes no hash.
+    /// The identifier of a key, which stored hashes show, and which changes no tag.
     KeyId, Params::MAX_KEYID_LEN, Error::KeyIdTooLong
 }
 
 byte_list! {
-    /// Associated data, which changes the hash.
+    /// Associated data, which changes the tag.
     AssociatedData, Params::MAX_DATA_LEN, Error::AdTooLong
 }
 
@@ -337,7 +338,7 @@ impl ParamsBuilder {
         Self::DEFAULT
     }
 
-    /// Sets how many blocks of 1024 bytes are asked for.
+    /// Sets the number of blocks of 1024 bytes that the parameters ask for.
     pub fn m_cost(&mut self, m_cost: u32) -> &mut Self {
         self.m_cost = m_cost;
         self
@@ -376,7 +377,7 @@ impl ParamsBuilder {
     /// The parameters with these settings.
     ///
     /// # Errors
-    /// Those of [`Params::new`].
+    /// The errors of [`Params::new`].
     pub fn build(&self) -> Result<Params> {
         Ok(Params {
             keyid: self.keyid.unwrap_or_default(),
@@ -388,7 +389,7 @@ impl ParamsBuilder {
     /// A context with these parameters.
     ///
     /// # Errors
-    /// Those of [`Params::new`].
+    /// The errors of [`Params::new`].
     pub fn context(&self, algorithm: Algorithm, version: Version) -> Result<Argon2<'_>> {
         Ok(Argon2::new(algorithm, version, self.build()?))
     }
@@ -400,7 +401,7 @@ impl Default for ParamsBuilder {
     }
 }
 
-/// As [`ParamsBuilder::build`].
+/// Does what [`ParamsBuilder::build`] does.
 impl TryFrom<ParamsBuilder> for Params {
     type Error = Error;
 

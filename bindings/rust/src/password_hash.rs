@@ -1,4 +1,4 @@
-//! Passwords hashed to texts, and verified by them.
+//! Makes stored hashes of passwords, and verifies passwords by them.
 
 pub mod phc;
 
@@ -7,7 +7,7 @@ use std::fmt::{self, Debug, Display};
 /// A result with [`Error`].
 pub type Result<T> = std::result::Result<T, Error>;
 
-/// Why no text is made, or a text does not accept a password.
+/// Why no hash is made, or a stored hash does not accept a password.
 #[derive(Clone, Copy, Debug, Eq, PartialEq)]
 #[non_exhaustive]
 pub enum Error {
@@ -15,11 +15,11 @@ pub enum Error {
     Algorithm,
     /// The system gave no random bytes.
     Crypto,
-    /// The text is outside the grammar.
+    /// The stored hash is outside the grammar.
     EncodingInvalid,
-    /// A request for memory was refused.
+    /// The system refused memory.
     OutOfMemory,
-    /// The hash has a length that no text has, or another than the parameters name.
+    /// The tag has a length that no stored hash has, or another length than the parameters name.
     OutputSize,
     /// A parameter is invalid.
     ParamInvalid {
@@ -28,9 +28,9 @@ pub enum Error {
     },
     /// The parameters are invalid.
     ParamsInvalid,
-    /// The text does not accept the password, or the password is too long.
+    /// The stored hash does not accept the password, or the password is too long.
     PasswordInvalid,
-    /// The salt has a length that no text has.
+    /// The salt has a length that no stored hash has.
     SaltInvalid,
     /// No version has the number.
     Version,
@@ -63,10 +63,10 @@ pub trait PasswordHasher<H> {
     /// The hasher names them.
     fn hash_password_with_salt(&self, password: &[u8], salt: &[u8]) -> Result<H>;
 
-    /// Hashes a password with a salt of 16 bytes that are drawn from the system.
+    /// Hashes a password with a salt of 16 bytes, which the system draws.
     ///
     /// # Errors
-    /// [`Error::Crypto`] if the system gives none, else as [`PasswordHasher::hash_password_with_salt`].
+    /// [`Error::Crypto`] if the system gives no random bytes, and the errors of [`PasswordHasher::hash_password_with_salt`].
     fn hash_password(&self, password: &[u8]) -> Result<H> {
         self.hash_password_with_salt(password, &phc::Salt::generate()?)
     }
@@ -77,7 +77,8 @@ pub trait CustomizedPasswordHasher<H> {
     /// The parameters.
     type Params: Clone + Debug + Default;
 
-    /// Hashes a password under an algorithm, a version and parameters, the default ones if they are `None`.
+    /// Hashes a password under an algorithm, a version and parameters. `None` means the default algorithm, or the default
+    /// version.
     ///
     /// # Errors
     /// The hasher names them.
@@ -93,7 +94,7 @@ pub trait CustomizedPasswordHasher<H> {
     /// Hashes a password under these parameters, by the default algorithm and version.
     ///
     /// # Errors
-    /// As [`CustomizedPasswordHasher::hash_password_customized`].
+    /// The errors of [`CustomizedPasswordHasher::hash_password_customized`].
     fn hash_password_with_params(
         &self,
         password: &[u8],
@@ -106,9 +107,9 @@ pub trait CustomizedPasswordHasher<H> {
 
 /// Verifies passwords by values of `H`.
 pub trait PasswordVerifier<H: ?Sized> {
-    /// Whether a password has this hash.
+    /// Verifies that a password has this hash.
     ///
     /// # Errors
-    /// [`Error::PasswordInvalid`] if it has not; the verifier names others.
+    /// [`Error::PasswordInvalid`] if the password does not have this hash. The verifier names other errors.
     fn verify_password(&self, password: &[u8], hash: &H) -> Result<()>;
 }

@@ -1,4 +1,4 @@
-//! The calls of `argon2_phc.h` on memory that is lent for a call. All `unsafe` of this package is here.
+//! The calls of `argon2_phc.h`, on memory that is borrowed for a call. All `unsafe` code of this package is in this file.
 
 #![allow(unsafe_code)]
 
@@ -72,7 +72,7 @@ struct ShownParts {
     data: [u8; 32],
 }
 
-/// What a text of the grammar shows.
+/// What a PHC string shows.
 pub(crate) struct Shown<'text> {
     text: &'text str,
     parts: ShownParts,
@@ -120,10 +120,10 @@ codes! {
     ABOVE_BOUND = -88,
 }
 
-/// The room for a text with its zero byte.
+/// The room for a stored hash with its zero byte.
 const TEXT_SIZE: usize = 327;
 
-/// What `argon2p_needs_rehash` answers of a text with the wanted settings.
+/// The answer of `argon2p_needs_rehash` for a stored hash with the wanted settings.
 const CURRENT: c_int = 0;
 
 /// The most threads of a call; 0 is as many as lanes.
@@ -188,7 +188,7 @@ unsafe extern "C" {
 }
 
 impl Settings {
-    /// The settings of a hasher, with pointers into it.
+    /// Returns the settings of a hasher, with pointers into the hasher.
     fn of(argon2: &Argon2<'_>) -> Self {
         let params = &argon2.params;
         Self {
@@ -206,7 +206,7 @@ impl Settings {
         }
     }
 
-    /// Settings with these costs.
+    /// Returns settings with these costs.
     fn with_costs(m_cost: u32, t_cost: u32, p_cost: u32) -> Self {
         Self {
             size: size_of::<Self>(),
@@ -229,7 +229,7 @@ impl Settings {
     }
 }
 
-/// Ok if parameters are valid.
+/// Returns Ok if parameters are valid.
 pub(crate) fn check_params(
     m_cost: u32,
     t_cost: u32,
@@ -243,20 +243,20 @@ pub(crate) fn check_params(
     })
 }
 
-/// Ok if the settings of a hasher are valid.
+/// Returns Ok if the settings of a hasher are valid.
 pub(crate) fn check_hasher(argon2: &Argon2<'_>) -> Result<()> {
     check(&Settings::of(argon2))
 }
 
 fn check(settings: &Settings) -> Result<()> {
-    // SAFETY: the call reads the settings alone, and looks at no byte of what they point to.
+    // SAFETY: the call reads only the settings, and no byte to which they point.
     match unsafe { argon2p_check(settings) } {
         OK => Ok(()),
         code => Err(error(code)),
     }
 }
 
-/// Writes a tag, on lent memory or on the library's.
+/// Writes a tag, on memory of the caller or of the library.
 pub(crate) fn tag(
     argon2: &Argon2<'_>,
     pwd: &[u8],
@@ -265,9 +265,9 @@ pub(crate) fn tag(
     memory: Option<&mut [Block]>,
 ) -> Result<()> {
     let (memory, blocks) = memory.map_or((ptr::null_mut(), 0), |it| (it.as_mut_ptr(), it.len()));
-    // SAFETY: each pointer goes with the length of what it points to, or is null with length 0. What is written, `out` and
-    // the memory, is borrowed by this call alone, so it overlaps nothing else. A `Block` has the layout of `argon2p_block`,
-    // with a larger alignment, and any words are valid in it.
+    // SAFETY: each pointer goes with the length of what it points to, or is null with length 0. The call writes to `out` and to
+    // the memory. Only this call borrows them, so they overlap nothing else. A `Block` has the layout of `argon2p_block`, with a
+    // larger alignment, and any words are valid in it.
     let code = unsafe {
         argon2p_hash_into(
             &Settings::of(argon2),
@@ -284,7 +284,7 @@ pub(crate) fn tag(
     if code == OK { Ok(()) } else { Err(error(code)) }
 }
 
-/// Fills lent memory.
+/// Fills memory of the caller.
 pub(crate) fn fill(
     argon2: &Argon2<'_>,
     pwd: &[u8],
@@ -306,7 +306,7 @@ pub(crate) fn fill(
     if code == OK { Ok(()) } else { Err(error(code)) }
 }
 
-/// The text of a password, with a salt that is drawn if none is given.
+/// Returns the hash of a password, to be stored. If there is no salt, the library draws one.
 pub(crate) fn hash(
     argon2: &Argon2<'_>,
     pwd: &[u8],
@@ -314,8 +314,8 @@ pub(crate) fn hash(
 ) -> password_hash::Result<String> {
     let (salt, salt_len) = salt.map_or((ptr::null(), 0), |it| (it.as_ptr(), it.len()));
     text_of(|text, room| {
-        // SAFETY: each pointer goes with the length of what it points to, or is null with length 0, and what is written is
-        // borrowed by this call alone.
+        // SAFETY: each pointer goes with the length of what it points to, or is null with length 0. Only this call borrows the
+        // bytes that it writes.
         unsafe {
             argon2p_hash(
                 &Settings::of(argon2),
@@ -330,7 +330,7 @@ pub(crate) fn hash(
     })
 }
 
-/// The text with this salt and this hash under settings.
+/// Returns the stored hash with this salt and the tag `hash` under the settings of a hasher.
 pub(crate) fn encode(
     argon2: &Argon2<'_>,
     salt: &[u8],
@@ -352,7 +352,7 @@ pub(crate) fn encode(
     })
 }
 
-/// The text that a call writes into the room that it is given.
+/// Returns the stored hash that a call writes. The call gets the address and the length of its room.
 fn text_of(call: impl FnOnce(*mut u8, usize) -> c_int) -> password_hash::Result<String> {
     let mut room = [0; TEXT_SIZE];
     match call(room.as_mut_ptr(), room.len()) {
@@ -364,8 +364,8 @@ fn text_of(call: impl FnOnce(*mut u8, usize) -> c_int) -> password_hash::Result<
     }
 }
 
-/// Ok if a text asks for no more than a bound, and accepts a password under the hasher's secret, or else under the old
-/// one, if there is one: whether it was the old one.
+/// Verifies a password by a stored hash, which must ask for no more than a bound. Returns whether it was the old secret, and not
+/// the hasher's secret, that accepted the password.
 pub(crate) fn verify(
     argon2: &Argon2<'_>,
     old_secret: Option<&[u8]>,
@@ -389,8 +389,8 @@ pub(crate) fn verify(
         old_secret_len: old_secret.map_or(0, <[u8]>::len),
     };
     let mut by_old_secret = 0;
-    // SAFETY: each pointer goes with the length of what it points to, or is null with length 0, and what is written is
-    // borrowed by this call alone.
+    // SAFETY: each pointer goes with the length of what it points to, or is null with length 0. Only this call borrows the number
+    // that it writes.
     let code = unsafe {
         argon2p_verify(
             &raw const verifier,
@@ -408,10 +408,10 @@ pub(crate) fn verify(
     }
 }
 
-/// Whether a text shows other settings than a hasher's.
+/// Returns whether a stored hash shows other settings than the settings of a hasher.
 pub(crate) fn needs_rehash(argon2: &Argon2<'_>, text: &str) -> password_hash::Result<bool> {
     let mut answer = CURRENT;
-    // SAFETY: each pointer goes with the length of what it points to, and what is written is borrowed by this call alone.
+    // SAFETY: each pointer goes with the length of what it points to. Only this call borrows the number that it writes.
     let code = unsafe {
         argon2p_needs_rehash(
             &Settings::of(argon2),
@@ -426,12 +426,12 @@ pub(crate) fn needs_rehash(argon2: &Argon2<'_>, text: &str) -> password_hash::Re
     }
 }
 
-/// What a text shows; `None` if it is outside the grammar.
+/// Returns what a PHC string shows, or `None` if `text` is outside the grammar.
 pub(crate) fn parse(text: &str) -> Option<Shown<'_>> {
     // SAFETY: all members are integers, for which zeros are valid.
     let mut parts: ShownParts = unsafe { mem::zeroed() };
     parts.size = size_of::<ShownParts>();
-    // SAFETY: the pointer goes with the text's length, and what is written is borrowed by this call alone.
+    // SAFETY: the pointer goes with the length of `text`. Only this call borrows the structure that it writes.
     let code = unsafe { argon2p_parse(text.as_ptr(), text.len(), &raw mut parts) };
     (code != TEXT_INVALID).then_some(Shown { text, parts, code })
 }
@@ -462,12 +462,12 @@ impl<'text> Shown<'text> {
         front(&self.parts.salt, self.parts.salt_len)
     }
 
-    /// The hash, empty if there is none.
+    /// The tag, empty if there is none.
     pub(crate) fn output(&self) -> &[u8] {
         front(&self.parts.output, self.parts.output_len)
     }
 
-    /// Memory, passes and lanes, if the text is one of Argon2.
+    /// Memory, passes and lanes, if the PHC string is a hash of Argon2.
     pub(crate) fn costs(&self) -> password_hash::Result<(u32, u32, u32)> {
         match self.code {
             OK => Ok((self.parts.m_cost, self.parts.t_cost, self.parts.p_cost)),
@@ -475,31 +475,31 @@ impl<'text> Shown<'text> {
         }
     }
 
-    /// The key identifier, empty if there is none or the text is none of Argon2.
+    /// The key identifier, empty if there is none or if the PHC string is no hash of Argon2.
     pub(crate) fn keyid(&self) -> &[u8] {
         front(&self.parts.keyid, self.parts.keyid_len)
     }
 
-    /// The associated data, likewise.
+    /// The associated data, empty if there is none or if the PHC string is no hash of Argon2.
     pub(crate) fn data(&self) -> &[u8] {
         front(&self.parts.data, self.parts.data_len)
     }
 }
 
-/// The first bytes of some.
+/// Returns the first `len` bytes.
 fn front(bytes: &[u8], len: u32) -> &[u8] {
     bytes.get(..len as usize).unwrap_or_default()
 }
 
-/// Sets words to zero, also if nothing reads them again.
+/// Sets words to zero, even if nothing reads them again.
 pub(crate) fn wipe(words: &mut [u64]) {
     for word in words {
-        // SAFETY: the word is borrowed by this call alone.
+        // SAFETY: only this call borrows the word.
         unsafe { ptr::write_volatile(word, 0) };
     }
 }
 
-/// Why a hash is refused.
+/// Returns the error of a hasher for a code.
 fn error(code: c_int) -> Error {
     match code {
         OUTPUT_TOO_SHORT => Error::OutputTooShort,
@@ -521,7 +521,7 @@ fn error(code: c_int) -> Error {
     }
 }
 
-/// Why a text is refused.
+/// Returns the error of a stored hash for a code.
 fn refusal(code: c_int) -> password_hash::Error {
     use password_hash::Error as To;
     match code {
@@ -538,9 +538,9 @@ fn refusal(code: c_int) -> password_hash::Error {
     }
 }
 
-/// Ends a call that was refused by a code which the library of this package never returns here.
+/// Ends a call that was refused by a code which the library of this package never returns for it.
 fn another_library(code: c_int) -> ! {
-    // SAFETY: the call takes any number, and returns a text that ends with a zero byte and stays.
+    // SAFETY: the call accepts any number, and returns a constant string that ends with a zero byte.
     let message = unsafe { CStr::from_ptr(argon2p_error_message(code)) };
     panic!("another libargon2 than this package's is linked: {message:?} ({code})");
 }
@@ -550,10 +550,10 @@ mod tests {
     use super::*;
     use std::path::Path;
 
-    /// Each code has the number that the header gives it, if the header is there.
+    /// Each code has the number that the header gives it. A package outside the repository has no header.
     #[test]
     fn codes_are_those_of_the_header() {
-        let header = Path::new(env!("CARGO_MANIFEST_DIR")).join("../bindings/c/argon2_phc.h");
+        let header = Path::new(env!("CARGO_MANIFEST_DIR")).join("../c/argon2_phc.h");
         let Ok(header) = std::fs::read_to_string(header) else {
             return;
         };

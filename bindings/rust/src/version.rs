@@ -6,9 +6,9 @@ use crate::{Error, Result};
 #[derive(Clone, Copy, Debug, Default, Eq, Ord, PartialEq, PartialOrd)]
 #[repr(u32)]
 pub enum Version {
-    /// Number 16: each pass writes over the one before.
+    /// Version 16, in which each pass overwrites the blocks of the pass before.
     V0x10 = 0x10,
-    /// Number 19, that of RFC 9106: a block is xored with that of the pass before.
+    /// Version 19, the version of RFC 9106, in which each block is xored with the same block of the pass before.
     #[default]
     V0x13 = 0x13,
 }
@@ -19,10 +19,10 @@ impl From<Version> for u32 {
     }
 }
 
-/// The version with this number.
+/// Returns the version with this number.
 ///
 /// # Errors
-/// [`Error::VersionInvalid`] if there is none.
+/// [`Error::VersionInvalid`] if no version has the number.
 impl TryFrom<u32> for Version {
     type Error = Error;
 

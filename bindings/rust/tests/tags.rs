@@ -1,10 +1,10 @@
-//! Tags, filled memory, and what hashing refuses.
+//! Tests of tags, of filled memory, and of what hashing refuses.
 
 use argon2::{
     Algorithm, Argon2, AssociatedData, Block, Error, Kdf, Params, ParamsBuilder, Version,
 };
 
-/// The tags of RFC 9106, section 5, and those of version 0x10, which the reference implementation prints.
+/// The tags of RFC 9106, section 5, and the tags of version 0x10 that the reference implementation prints.
 const TAGS: [(Algorithm, Version, &str); 6] = [
     (
         Algorithm::Argon2d,

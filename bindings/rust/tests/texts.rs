@@ -1,4 +1,4 @@
-//! Parameters, values of texts, and passwords hashed to texts and verified by them.
+//! Tests of parameters, of the fields of PHC strings, and of hashes that are made, stored and verified.
 
 use argon2::Error as HashError;
 use argon2::bound::BoundError;
@@ -11,7 +11,7 @@ use argon2::{
     Version, kdf,
 };
 
-/// What the reference implementation makes of `password` and `somesalt`.
+/// The hash that the reference implementation makes of `password` and `somesalt`.
 const REFERENCE: &str =
     "$argon2id$v=19$m=256,t=2,p=2$c29tZXNhbHQ$bQk8UB/VmZZF4Oo79iDXuL5/0ttZwg2f/5U52iv1cDc";
 
@@ -384,7 +384,7 @@ fn texts_of_other_settings() {
         "$argon2i$v=42$m=65536,t=2,p=1$c29tZXNhbHQ$AAAAAA",
         Error::Version,
     );
-    // Without a version it is 0x10, and the order of the parameters is free.
+    // (without a version the version is 0x10, and the parameters may have any order)
     let text = "$argon2i$p=2,m=256,t=2$c29tZXNhbHQ$tsEVYKap1h6scGt5ovl9aLRGOqOth+AMB+KwHpDFZPs";
     assert_eq!(verify("password", text), Ok(()));
     let hash = PasswordHash::new(text).expect("a text");

@@ -1,4 +1,4 @@
-//! Texts in the PHC string format, by the grammar of docs/PHC.md.
+//! PHC strings, by the grammar of docs/PHC.md.
 
 use super::{Error, Result};
 use crate::bytes::Bytes;
@@ -9,7 +9,7 @@ use std::str::{self, FromStr};
 
 pub use crate::algorithm::{ARGON2D_IDENT, ARGON2I_IDENT, ARGON2ID_IDENT};
 
-/// An identifier, as of an algorithm or a parameter: 1 to 32 letters from `a` to `z`, digits and `-`.
+/// The identifier of an algorithm or a parameter. It has 1 to 32 letters from `a` to `z`, digits and `-`.
 #[derive(Clone, Copy, Eq, Hash, Ord, PartialEq, PartialOrd)]
 pub struct Ident(Bytes<{ Self::MAX_LENGTH }>);
 
@@ -17,10 +17,10 @@ impl Ident {
     /// The most bytes of an identifier.
     pub const MAX_LENGTH: usize = 32;
 
-    /// The identifier with this text.
+    /// Makes an identifier of a string.
     ///
     /// # Errors
-    /// [`Error::EncodingInvalid`] if it is none.
+    /// [`Error::EncodingInvalid`] if the string is no identifier.
     pub fn new(text: &str) -> Result<Self> {
         let whole = format!("${text}");
         let shown = sys::parse(&whole).filter(|it| it.name() == text);
@@ -29,12 +29,12 @@ impl Ident {
             .ok_or(Error::EncodingInvalid)
     }
 
-    /// The identifier with this text, which is one.
+    /// Makes an identifier of a string, which must be an identifier.
     pub(crate) const fn literal(text: &str) -> Self {
         Self(Bytes::literal(text.as_bytes()))
     }
 
-    /// The text.
+    /// The identifier as a string.
     #[must_use]
     pub fn as_str(&self) -> &str {
         str::from_utf8(self.0.as_bytes()).unwrap_or_default()
@@ -67,7 +67,7 @@ impl Display for Ident {
     }
 }
 
-/// As [`Ident::new`].
+/// Does what [`Ident::new`] does.
 impl FromStr for Ident {
     type Err = Error;
 
@@ -76,7 +76,7 @@ impl FromStr for Ident {
     }
 }
 
-/// As [`Ident::new`].
+/// Does what [`Ident::new`] does.
 impl TryFrom<&str> for Ident {
     type Error = Error;
 
@@ -85,23 +85,23 @@ impl TryFrom<&str> for Ident {
     }
 }
 
-/// The value of a parameter: 1 to 64 letters, digits, `/`, `+`, `.` and `-`.
+/// The value of a parameter. It has 1 to 64 letters, digits, `/`, `+`, `.` and `-`.
 #[derive(Clone, Copy, Debug, Eq, PartialEq)]
 pub struct Value<'list>(&'list str);
 
 impl<'list> Value<'list> {
-    /// The text.
+    /// The value as a string.
     #[must_use]
     pub fn as_str(&self) -> &'list str {
         self.0
     }
 
-    /// The number whose decimal it is.
+    /// Reads the value as a decimal.
     ///
     /// # Errors
-    /// [`Error::ParamsInvalid`] if it is no decimal up to 4294967295.
+    /// [`Error::ParamsInvalid`] if the value is no decimal up to 4294967295.
     pub fn decimal(&self) -> Result<u32> {
-        // (the version of a text is such a decimal)
+        // (the version of a PHC string is a decimal of this kind)
         let text = format!("$a$v={}", self.0);
         let shown = sys::parse(&text).ok_or(Error::ParamsInvalid)?;
         shown.version().ok_or(Error::ParamsInvalid)
@@ -120,7 +120,7 @@ impl Display for Value<'_> {
     }
 }
 
-/// A parameter list: names with values, no name twice, at most 127 bytes in all.
+/// A parameter list, which has names with values. No name occurs twice, and the list has at most 127 bytes.
 #[derive(Clone, Default, Eq, PartialEq)]
 pub struct ParamsString(String);
 
@@ -134,7 +134,7 @@ impl ParamsString {
     /// Appends a name with the decimal of a number.
     ///
     /// # Errors
-    /// [`Error::ParamsInvalid`] if the longer list would be none. The list is then as before.
+    /// [`Error::ParamsInvalid`] if the longer list would be no parameter list. The list is then as before.
     pub fn add_decimal(&mut self, name: impl AsRef<str>, value: u32) -> Result<()> {
         self.add(name.as_ref(), &value.to_string())
     }
@@ -142,7 +142,7 @@ impl ParamsString {
     /// Appends a name with the Base64 of bytes.
     ///
     /// # Errors
-    /// [`Error::ParamsInvalid`] if the longer list would be none. The list is then as before.
+    /// [`Error::ParamsInvalid`] if the longer list would be no parameter list. The list is then as before.
     pub fn add_b64_bytes(&mut self, name: impl AsRef<str>, bytes: &[u8]) -> Result<()> {
         let value = base64_text(bytes).map_err(|_| Error::ParamsInvalid)?;
         self.add(name.as_ref(), &value)
@@ -162,7 +162,7 @@ impl ParamsString {
         item.map(|(_, value)| value)
     }
 
-    /// The names and values, in the order of the text.
+    /// The names and values, in the order of the list.
     pub fn iter(&self) -> impl Iterator<Item = (Ident, Value<'_>)> {
         self.items()
             .map(|(name, value)| (Ident::literal(name), value))
@@ -173,19 +173,19 @@ impl ParamsString {
         items.map(|(name, value)| (name, Value(value)))
     }
 
-    /// The text.
+    /// The list as a string.
     #[must_use]
     pub fn as_str(&self) -> &str {
         &self.0
     }
 
-    /// How many bytes the text has.
+    /// The number of bytes of the list.
     #[must_use]
     pub fn len(&self) -> usize {
         self.0.len()
     }
 
-    /// Whether there is no parameter.
+    /// Whether the list has no parameter.
     #[must_use]
     pub fn is_empty(&self) -> bool {
         self.0.is_empty()
@@ -210,7 +210,7 @@ impl Display for ParamsString {
     }
 }
 
-/// The list with this text, which may be empty, or [`Error::ParamsInvalid`].
+/// Reads a list from a string, which may be empty. If the string is no list, the error is [`Error::ParamsInvalid`].
 impl FromStr for ParamsString {
     type Err = Error;
 
@@ -223,7 +223,7 @@ impl FromStr for ParamsString {
     }
 }
 
-/// Makes the type of a field of bytes.
+/// Makes the type of a field whose value is bytes.
 macro_rules! field {
     ($(#[$doc:meta])* $name:ident, $min:literal to $max:literal, $error:ident) => {
         $(#[$doc])*
@@ -236,7 +236,7 @@ macro_rules! field {
             /// The most bytes.
             pub const MAX_LENGTH: usize = $max;
 
-            /// These bytes.
+            /// Makes a field of these bytes.
             ///
             /// # Errors
             #[doc = concat!("[`Error::", stringify!($error), "`] if they are fewer than ", $min, " or more than ", $max, ".")]
@@ -266,7 +266,7 @@ macro_rules! field {
             }
         }
 
-        /// The Base64.
+        /// Prints the Base64 of the bytes.
         impl Display for $name {
             fn fmt(&self, f: &mut fmt::Formatter<'_>) -> fmt::Result {
                 f.pad(&base64_text(self).map_err(|_| fmt::Error)?)
@@ -281,46 +281,46 @@ field! {
 }
 
 field! {
-    /// A hash.
+    /// A tag.
     Output, 4 to 64, OutputSize
 }
 
 impl Salt {
-    /// The bytes of a salt that is drawn.
+    /// The number of bytes of a salt that the system draws.
     pub const RECOMMENDED_LENGTH: usize = 16;
 
-    /// A salt of 16 bytes that are drawn from the system.
+    /// Makes a salt of 16 random bytes of the system.
     ///
     /// # Errors
-    /// [`Error::Crypto`] if the system gives none.
+    /// [`Error::Crypto`] if the system gives no random bytes.
     pub fn generate() -> Result<Self> {
-        // (the library draws salts for texts alone: this is that of the cheapest)
+        // (the library draws salts only for stored hashes, so this makes the cheapest one)
         let cheapest = Argon2::from(Params::new(8, 1, 1, None)?);
         let hash = PasswordHash::new(&sys::hash(&cheapest, &[], None)?)?;
         hash.salt.ok_or(Error::Crypto)
     }
 }
 
-/// What a text says. There is no hash without a salt: one is neither printed nor verified.
+/// The fields of a PHC string. A tag without a salt is neither printed nor verified.
 #[derive(Clone, Debug, Eq, PartialEq)]
 pub struct PasswordHash {
     /// The identifier of the algorithm.
     pub algorithm: Ident,
-    /// The version, if the text has one.
+    /// The version, if the PHC string has one.
     pub version: Option<u32>,
     /// The parameters.
     pub params: ParamsString,
-    /// The salt, if the text has one.
+    /// The salt, if the PHC string has one.
     pub salt: Option<Salt>,
-    /// The hash, if the text has one.
+    /// The tag, if the PHC string has one.
     pub hash: Option<Output>,
 }
 
 impl PasswordHash {
-    /// What a text says.
+    /// Reads a PHC string.
     ///
     /// # Errors
-    /// [`Error::EncodingInvalid`] if it is outside the grammar.
+    /// [`Error::EncodingInvalid`] if `text` is outside the grammar.
     pub fn new(text: &str) -> Result<Self> {
         let shown = sys::parse(text).ok_or(Error::EncodingInvalid)?;
         Ok(Self {
@@ -333,7 +333,7 @@ impl PasswordHash {
     }
 }
 
-/// The text.
+/// Prints the PHC string.
 impl Display for PasswordHash {
     fn fmt(&self, f: &mut fmt::Formatter<'_>) -> fmt::Result {
         write!(f, "${}", self.algorithm)?;
@@ -353,7 +353,7 @@ impl Display for PasswordHash {
     }
 }
 
-/// As [`PasswordHash::new`].
+/// Does what [`PasswordHash::new`] does.
 impl FromStr for PasswordHash {
     type Err = Error;
 
@@ -362,7 +362,7 @@ impl FromStr for PasswordHash {
     }
 }
 
-/// As [`PasswordHash::new`].
+/// Does what [`PasswordHash::new`] does.
 impl TryFrom<&str> for PasswordHash {
     type Error = Error;
 
@@ -371,20 +371,20 @@ impl TryFrom<&str> for PasswordHash {
     }
 }
 
-// Lists and Base64 are read and written as parts of whole texts. In front of bytes whose Base64 stands alone there are
-// six zero bytes, whose Base64 are eight characters: then they are as many as a hash has at least.
+// The library reads and writes lists and Base64 only as parts of whole PHC strings. A tag has at least four bytes. So shorter
+// bytes are read and written after six zero bytes, whose Base64 is eight characters.
 const FRONT: [u8; 6] = [0; 6];
 const FRONT_TEXT: &str = "AAAAAAAA";
 const NO_SALT: [u8; Salt::MIN_LENGTH] = [0; Salt::MIN_LENGTH];
 const NO_SALT_TEXT: &str = "AAAAAAAAAAA";
 
-/// The list of parameters.
+/// Returns the parameter list of parameters.
 pub(crate) fn list_text(params: &Params) -> Result<String> {
     let text = sys::encode(&params.into(), &NO_SALT, &FRONT)?;
     Ok(text.split('$').nth(3).unwrap_or_default().to_owned())
 }
 
-/// The Base64 of at most 64 bytes, else [`Error::OutputSize`].
+/// Returns the Base64 of at most 64 bytes. If there are more bytes, the error is [`Error::OutputSize`].
 fn base64_text(bytes: &[u8]) -> Result<String> {
     let is_short = bytes.len() < Output::MIN_LENGTH;
     let front = if is_short { &FRONT[..] } else { &[] };
@@ -393,7 +393,7 @@ fn base64_text(bytes: &[u8]) -> Result<String> {
     Ok(base64[if is_short { FRONT_TEXT.len() } else { 0 }..].to_owned())
 }
 
-/// The bytes whose Base64 a text is, if they are at most 58.
+/// Returns the bytes of a Base64, if it is the Base64 of at most 58 bytes.
 pub(crate) fn base64_bytes(text: &str) -> Option<Vec<u8>> {
     let whole = format!("$a${NO_SALT_TEXT}${FRONT_TEXT}{text}");
     let shown = sys::parse(&whole)?;
