@@ -1,7 +1,8 @@
-"""Accounts in a table `account (name text PRIMARY KEY, phc text NOT NULL)`, for a service on any number of machines.
+"""Keeps accounts in a table `account (name text PRIMARY KEY, phc text NOT NULL)`, for a service on any number of machines.
 
-A text is replaced only if it is still the one that was read. So no lock is held while a password is hashed, and of several
-calls at once none undoes what another one did. A connection is one of psycopg2.
+The column `phc` contains the stored hashes. A stored hash is replaced only if it is still the hash that was read. So no lock is
+held while a password is hashed, and of several calls at once none undoes the change of another call. Each argument `db` is a
+connection of psycopg2.
 """
 
 import base64
@@ -17,14 +18,17 @@ import psycopg2
 
 LOG = logging.getLogger(__name__)
 HASHER = argon2.PasswordHasher(time_cost=2, memory_cost=19456, parallelism=1, hash_len=32)
-# What new texts show, except for their costs.
+# What new hashes show, except for their costs.
 KIND = argon2.Type.ID, 19
-# Verified if a name is unknown or locked, so that this takes as long as a wrong password.
+# This hash is verified if a name is unknown or locked, so that the answer takes as long as for a wrong password.
 NOBODY = HASHER.hash(os.urandom(16))
 
 
-def text_of(db, name):
-    """The text of a name, or None. A name that PostgreSQL can't hold, with a NUL or half of a pair of surrogates, has none."""
+def stored_hash(db, name):
+    """Returns the stored hash of a name, or None.
+
+    PostgreSQL can't hold a name with a NUL or with half of a pair of surrogates, so this name has no stored hash.
+    """
     with db, db.cursor() as cursor:
         try:
             cursor.execute("SELECT phc FROM account WHERE name = %s", (name,))
@@ -35,68 +39,71 @@ def text_of(db, name):
 
 
 def replace(db, name, old, new):
-    """Gives a name the text `new` if it still has the text `old`, and returns whether it had."""
+    """Stores the hash `new` for a name if the hash `old` is still stored, and returns whether it was."""
     with db, db.cursor() as cursor:
         cursor.execute("UPDATE account SET phc = %s WHERE name = %s AND phc = %s", (new, name, old))
         return cursor.rowcount == 1
 
 
 def require(holds, why):
-    """Raises why a stored text is refused, if this does not hold."""
+    """Raises a ValueError with the reason why a stored hash is refused, unless this holds."""
     if not holds:
         raise ValueError(why)
 
 
 def cost(number, most):
-    """The cost that a text shows. It has a bound."""
+    """Returns the cost that a stored hash shows, and refuses a cost above a bound."""
     require(0 < int(number) <= most, "costs are below 1 or above the bound")
     return int(number)
 
 
-def accepts_other(text, password):
-    """Whether a text of bcrypt, or Django's of PBKDF2 or scrypt, accepts the bytes of a password. Costs have a bound too."""
-    if text.startswith("$2"):
-        cost(text[4:6], 14)
-        # (bcrypt ends a password at a NUL, and behind 72 bytes; the module refuses such passwords)
-        return b"\0" not in password and bcrypt.checkpw(password[:72], text.encode())
-    scheme, *fields = text.split("$")
+def accepts_other(stored, password):
+    """Returns whether a stored hash accepts the bytes of a password. Its costs have a bound too.
+
+    The hash is of bcrypt, or of Django's PBKDF2 or scrypt.
+    """
+    if stored.startswith("$2"):
+        cost(stored[4:6], 14)
+        # (bcrypt reads a password only up to a NUL, and only 72 bytes of it; the module refuses longer passwords and NULs)
+        return b"\0" not in password and bcrypt.checkpw(password[:72], stored.encode())
+    scheme, *fields = stored.split("$")
     if scheme == "pbkdf2_sha256":
-        rounds, salt, stored = fields
+        rounds, salt, tag = fields
         found = hashlib.pbkdf2_hmac("sha256", password, salt.encode(), cost(rounds, 2000000))
     else:
         require(scheme == "scrypt", "no known scheme")
-        n, salt, r, p, stored = fields
+        n, salt, r, p, tag = fields
         n, r, p = cost(n, 1 << 19), cost(r, 1 << 19), cost(p, 16)
         found = hashlib.scrypt(password, salt=salt.encode(), n=n, r=r, p=p, maxmem=1 << 26)
-    return hmac.compare_digest(base64.b64encode(found), stored.encode())
+    return hmac.compare_digest(base64.b64encode(found), tag.encode())
 
 
-def accepts(text, password):
-    """Whether a text accepts a password. One behind `!` is locked, and accepts none.
+def accepts(stored, password):
+    """Returns whether a stored hash accepts a password. A stored hash after `!` is locked, and accepts no password.
 
-    Neither does one that is broken, of an unknown scheme or above the bound, which is logged.
+    A stored hash that is broken, of an unknown scheme or above the bound accepts no password either, and this logs the reason.
     """
-    if text.startswith("!"):
-        text = NOBODY
+    if stored.startswith("!"):
+        stored = NOBODY
     # (Django writes the name of the scheme first)
-    text = text.removeprefix("argon2").removeprefix("bcrypt$")
+    stored = stored.removeprefix("argon2").removeprefix("bcrypt$")
     try:
-        if not text.startswith("$argon2"):
-            return accepts_other(text, password.encode())
-        costs = argon2.extract_parameters(text)
+        if not stored.startswith("$argon2"):
+            return accepts_other(stored, password.encode())
+        costs = argon2.extract_parameters(stored)
         is_cheap = costs.memory_cost <= 262144 and costs.time_cost <= 16 and costs.parallelism <= 16
         require(is_cheap, "costs are above the bound")
-        return HASHER.verify(text, password)
+        return HASHER.verify(stored, password)
     except (argon2.exceptions.VerifyMismatchError, UnicodeEncodeError):
         # (an error of UTF-8 names the password, so it is not logged)
         return False
     except (ValueError, argon2.exceptions.VerificationError) as error:
-        LOG.error("a stored text is refused: %r", error)
+        LOG.error("a stored hash is refused: %r", error)
         return False
 
 
 def hashed(password):
-    """A new text of a password. A password that has no bytes in UTF-8 is a ValueError, which does not name it."""
+    """Returns a new hash of a password. A password that has no bytes in UTF-8 is a ValueError, which does not show it."""
     try:
         return HASHER.hash(password)
     except UnicodeEncodeError:
@@ -104,18 +111,18 @@ def hashed(password):
     raise ValueError("half of a pair of surrogates has no bytes in UTF-8")
 
 
-def is_weaker(text):
-    """Whether a text is weaker than new ones, or of another scheme. One with higher costs is not."""
-    if not text.startswith("$argon2"):
+def is_weaker(stored):
+    """Returns whether a stored hash is weaker than new hashes, or of another scheme. A hash with higher costs is not weaker."""
+    if not stored.startswith("$argon2"):
         return True
-    it = argon2.extract_parameters(text)
+    it = argon2.extract_parameters(stored)
     costs = it.memory_cost, it.time_cost, it.parallelism, it.hash_len
     least = HASHER.memory_cost, HASHER.time_cost, HASHER.parallelism, HASHER.hash_len
     return (it.type, it.version) != KIND or any(map(operator.lt, costs, least))
 
 
 def register(db, name, password):
-    """Gives a new name a text, and returns whether the name was new. A name that PostgreSQL can't hold is a ValueError."""
+    """Stores a hash for a new name, and returns whether the name was new. A name that PostgreSQL can't hold is a ValueError."""
     fresh = hashed(password)
     with db, db.cursor() as cursor:
         cursor.execute("INSERT INTO account VALUES (%s, %s) ON CONFLICT DO NOTHING", (name, fresh))
@@ -123,29 +130,29 @@ def register(db, name, password):
 
 
 def log_in(db, name, password):
-    """Whether a name has a password. A weaker text is replaced; if another call came first, its text stays.
+    """Returns whether a name has a password. A new hash replaces a weaker one, unless another call changed the stored hash first.
 
-    The text also stays if a new one can't be made or stored, which is logged.
+    The stored hash stays if a new hash can't be made or stored, and this logs the reason.
     """
-    text = text_of(db, name)
-    if not accepts(text or NOBODY, password) or text is None:
+    stored = stored_hash(db, name)
+    if not accepts(stored or NOBODY, password) or stored is None:
         return False
-    if is_weaker(text):
+    if is_weaker(stored):
         try:
-            replace(db, name, text, hashed(password))
+            replace(db, name, stored, hashed(password))
         except (argon2.exceptions.HashingError, psycopg2.Error) as error:
-            # (an error of PostgreSQL may have the text in it)
-            LOG.error("a text is not renewed: %s", type(error).__name__)
+            # (an error of PostgreSQL may show the hash)
+            LOG.error("a stored hash is not renewed: %s", type(error).__name__)
     return True
 
 
 def change_password(db, name, old, new):
-    """Gives a name a text of a new password if its text accepts the old one, and returns whether it did."""
-    text, fresh = text_of(db, name), None
+    """Stores a hash of the new password for a name if its stored hash accepts the old password, and returns whether it did."""
+    stored, fresh = stored_hash(db, name), None
     # (an unknown name takes as long as a wrong password)
-    while accepts(text or NOBODY, old) and text is not None:
+    while accepts(stored or NOBODY, old) and stored is not None:
         fresh = fresh or hashed(new)
-        if replace(db, name, text, fresh):
+        if replace(db, name, stored, fresh):
             return True
-        text = text_of(db, name)
+        stored = stored_hash(db, name)
     return False

@@ -1,4 +1,4 @@
-# The commands, and PHP over the library, with the packages of a release in this folder.
+# Makes an image with the commands, and with PHP over the library. The packages of a release are in this folder.
 FROM debian:12-slim
 COPY argon2-proved_*_amd64.deb libargon2-1_*_amd64.deb /packages/
 RUN apt-get update \

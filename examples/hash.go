@@ -1,4 +1,4 @@
-// Hashes a password to a text and verifies it.
+// Hashes a password and verifies it.
 package main
 
 // #cgo pkg-config: libargon2-proved
@@ -13,7 +13,7 @@ import (
 	"unsafe"
 )
 
-// start returns where bytes begin. No bytes begin nowhere.
+// start returns the address of the first byte, or nil if there are no bytes.
 func start(of []byte) unsafe.Pointer {
 	if len(of) == 0 {
 		return nil
@@ -21,24 +21,24 @@ func start(of []byte) unsafe.Pointer {
 	return unsafe.Pointer(&of[0])
 }
 
-// hash returns the text of a password, or why there is none.
+// hash returns the hash of a password, to be stored, or why there is none.
 func hash(password []byte) (string, error) {
 	salt := make([]byte, 16)
 	if _, err := rand.Read(salt); err != nil {
 		return "", err
 	}
-	text := make([]byte, 128)
+	encoded := make([]byte, 128)
 	code := C.argon2id_hash_encoded(2, 19456, 1, start(password), C.size_t(len(password)),
-		unsafe.Pointer(&salt[0]), C.size_t(len(salt)), 32, (*C.char)(unsafe.Pointer(&text[0])), C.size_t(len(text)))
+		unsafe.Pointer(&salt[0]), C.size_t(len(salt)), 32, (*C.char)(unsafe.Pointer(&encoded[0])), C.size_t(len(encoded)))
 	if code != C.ARGON2_OK {
 		return "", errors.New(C.GoString(C.argon2_error_message(code)))
 	}
-	return C.GoString((*C.char)(unsafe.Pointer(&text[0]))), nil
+	return C.GoString((*C.char)(unsafe.Pointer(&encoded[0]))), nil
 }
 
-// accepts tells whether a stored text accepts a password, or why it can't be verified.
-func accepts(text string, password []byte) (bool, error) {
-	encoded := C.CString(text)
+// accepts returns whether a stored hash accepts a password, or why the hash can't be verified.
+func accepts(stored string, password []byte) (bool, error) {
+	encoded := C.CString(stored)
 	defer C.free(unsafe.Pointer(encoded))
 	code := C.argon2id_verify(encoded, start(password), C.size_t(len(password)))
 	if code != C.ARGON2_OK && code != C.ARGON2_VERIFY_MISMATCH {
@@ -48,16 +48,16 @@ func accepts(text string, password []byte) (bool, error) {
 }
 
 func main() {
-	text, err := hash([]byte("correct horse"))
+	stored, err := hash([]byte("correct horse"))
 	if err != nil {
 		panic(err)
 	}
-	fmt.Println(text)
-	right, err := accepts(text, []byte("correct horse"))
+	fmt.Println(stored)
+	right, err := accepts(stored, []byte("correct horse"))
 	if err != nil {
 		panic(err)
 	}
-	wrong, err := accepts(text, []byte("wrong horse"))
+	wrong, err := accepts(stored, []byte("wrong horse"))
 	if err != nil {
 		panic(err)
 	}

@@ -1,4 +1,4 @@
-// Hashes a password to a text and verifies it, by JNA.
+// Hashes a password and verifies it, by JNA.
 import com.sun.jna.Library;
 import com.sun.jna.Native;
 import java.nio.charset.StandardCharsets;
@@ -11,27 +11,29 @@ class Hash {
         int VERIFY_MISMATCH = -35;
 
         int argon2id_hash_encoded(int passes, int memory, int lanes, byte[] password, long passwordLength,
-                byte[] salt, long saltLength, long hashLength, byte[] text, long textSize);
+                byte[] salt, long saltLength, long hashLength, byte[] encoded, long encodedSize);
 
-        int argon2id_verify(String text, byte[] password, long length);
+        int argon2id_verify(String encoded, byte[] password, long length);
 
         String argon2_error_message(int code);
     }
 
+    /** Returns the hash of a password, to be stored. */
     static String hash(byte[] password) {
         byte[] salt = new byte[16];
-        byte[] text = new byte[128];
+        byte[] encoded = new byte[128];
         new SecureRandom().nextBytes(salt);
         int code = Argon2.LIBRARY.argon2id_hash_encoded(2, 19456, 1, password, password.length, salt, salt.length, 32,
-                text, text.length);
+                encoded, encoded.length);
         if (code != 0) {
             throw new IllegalArgumentException(Argon2.LIBRARY.argon2_error_message(code));
         }
-        return Native.toString(text, StandardCharsets.US_ASCII);
+        return Native.toString(encoded, StandardCharsets.US_ASCII);
     }
 
-    static boolean accepts(String text, byte[] password) {
-        int code = Argon2.LIBRARY.argon2id_verify(text, password, password.length);
+    /** Returns whether a stored hash accepts a password. */
+    static boolean accepts(String stored, byte[] password) {
+        int code = Argon2.LIBRARY.argon2id_verify(stored, password, password.length);
         if (code != 0 && code != Argon2.VERIFY_MISMATCH) {
             throw new IllegalArgumentException(Argon2.LIBRARY.argon2_error_message(code));
         }
@@ -39,9 +41,9 @@ class Hash {
     }
 
     public static void main(String[] args) {
-        String text = hash("correct horse".getBytes(StandardCharsets.UTF_8));
-        System.out.println(text);
-        System.out.println(accepts(text, "correct horse".getBytes(StandardCharsets.UTF_8)) + " "
-                + accepts(text, "wrong horse".getBytes(StandardCharsets.UTF_8)));
+        String stored = hash("correct horse".getBytes(StandardCharsets.UTF_8));
+        System.out.println(stored);
+        System.out.println(accepts(stored, "correct horse".getBytes(StandardCharsets.UTF_8)) + " "
+                + accepts(stored, "wrong horse".getBytes(StandardCharsets.UTF_8)));
     }
 }

@@ -1,18 +1,18 @@
-"""Hashes a password to a text and verifies it, by Debian's python3-argon2."""
+"""Hashes a password and verifies it, by Debian's python3-argon2."""
 
 import argon2
 
 HASHER = argon2.PasswordHasher(time_cost=2, memory_cost=19456, parallelism=1, hash_len=32)
 
 
-def accepts(text, password):
-    """Whether a stored text accepts a password."""
+def accepts(stored, password):
+    """Returns whether a stored hash accepts a password."""
     try:
-        return HASHER.verify(text, password)
+        return HASHER.verify(stored, password)
     except argon2.exceptions.VerifyMismatchError:
         return False
 
 
-text = HASHER.hash("correct horse")
-print(text)
-print(accepts(text, "correct horse"), accepts(text, "wrong horse"))
+stored = HASHER.hash("correct horse")
+print(stored)
+print(accepts(stored, "correct horse"), accepts(stored, "wrong horse"))

@@ -1,4 +1,4 @@
-# Hashes a password to a text and verifies it. Fiddle comes with Ruby.
+# Hashes a password and verifies it. Fiddle comes with Ruby.
 require "fiddle/import"
 require "securerandom"
 
@@ -10,22 +10,22 @@ module Argon2
   extern "const char *argon2_error_message(int)"
   VERIFY_MISMATCH = -35
 
-  # The text of a password.
+  # Returns the hash of a password, to be stored.
   def self.hash(password)
-    salt, text = SecureRandom.bytes(16), "\0" * 128
-    code = argon2id_hash_encoded(2, 19456, 1, password, password.bytesize, salt, salt.bytesize, 32, text, text.bytesize)
+    salt, encoded = SecureRandom.bytes(16), "\0" * 128
+    code = argon2id_hash_encoded(2, 19456, 1, password, password.bytesize, salt, salt.bytesize, 32, encoded, encoded.bytesize)
     raise argon2_error_message(code).to_s unless code.zero?
-    text.unpack1("Z*")
+    encoded.unpack1("Z*")
   end
 
-  # Whether a stored text accepts a password.
-  def self.accepts?(text, password)
-    code = argon2id_verify(text, password, password.bytesize)
+  # Returns whether a stored hash accepts a password.
+  def self.accepts?(stored, password)
+    code = argon2id_verify(stored, password, password.bytesize)
     raise argon2_error_message(code).to_s unless [0, VERIFY_MISMATCH].include?(code)
     code.zero?
   end
 end
 
-text = Argon2.hash("correct horse")
-puts text
-puts "#{Argon2.accepts?(text, "correct horse")} #{Argon2.accepts?(text, "wrong horse")}"
+stored = Argon2.hash("correct horse")
+puts stored
+puts "#{Argon2.accepts?(stored, "correct horse")} #{Argon2.accepts?(stored, "wrong horse")}"

@@ -3,11 +3,11 @@ use argon2::{Argon2, PasswordHash};
 
 fn main() -> Result<()> {
     let argon2 = Argon2::default();
-    let text = argon2.hash_password(b"correct horse")?.to_string();
-    println!("{text}");
+    let stored = argon2.hash_password(b"correct horse")?.to_string();
+    println!("{stored}");
 
-    let stored = PasswordHash::new(&text)?;
-    let accepts = |password: &[u8]| match argon2.verify_password(password, &stored) {
+    let hash = PasswordHash::new(&stored)?;
+    let accepts = |password: &[u8]| match argon2.verify_password(password, &hash) {
         Err(Error::PasswordInvalid) => Ok(false),
         answer => answer.map(|()| true),
     };

@@ -1,4 +1,4 @@
-// Answers logins by stored hashes that were made under a secret, within a bound, and renews these hashes.
+// Answers logins by hashes that are stored under a secret key ("pepper"), within a bound, and renews these hashes.
 import { createPool } from "argon2-proved/pool";
 
 // (at most four hashes at once, each in a thread, while at most 64 more logins wait)
@@ -7,8 +7,8 @@ const argon2 = createPool({ size: 4, maxQueued: 64 });
 const settings = { memory: 19456, passes: 2, lanes: 1, secret: "the secret" };
 const bound = { memory: 65536, passes: 4 };
 
-// Whether a user's stored hash accepts a password. If there is a new hash, it replaces the stored one. An Argon2Error says why a
-// stored hash is not verified, and a PoolError that too many logins wait.
+// Returns whether a user's stored hash accepts a password. If there is a new hash, it replaces the stored hash. An Argon2Error
+// tells why a stored hash can't be verified, and a PoolError means that too many logins wait.
 async function logIn(user, password) {
   const answer = await argon2.logIn(user.hash, password, { ...settings, bound });
   if (answer === null) return false;

@@ -7,18 +7,21 @@ from threading import BoundedSemaphore
 
 ADDRESS = "127.0.0.1", 8900
 ACCOUNTS = "/var/lib/accounts/accounts.db"
-# Each hash needs its memory, so only this many are made at once.
+# Each hash needs its own memory, so at most four hashes are made at once.
 AT_ONCE = BoundedSemaphore(4)
 
 
 def login_status(header):
-    """The status of argon2-passwd for a header of Basic authentication: 0 if it accepts, 1 if it refuses, else it failed."""
+    """Returns the status of argon2-passwd for a header of Basic authentication.
+
+    The status is 0 if argon2-passwd accepts the login, and 1 if it refuses the login. Any other status means that it failed.
+    """
     scheme, _, encoded = header.partition(" ")
     try:
         name, colon, password = base64.b64decode(encoded, validate=True).decode().partition(":")
     except ValueError:
         return 1
-    # (argon2-passwd reads a line, and a name with a NUL is no argument)
+    # (argon2-passwd reads one line, and an argument can't contain a NUL)
     if scheme.lower() != "basic" or not colon or "\0" in name or "\n" in password or "\r" in password:
         return 1
     with AT_ONCE:
@@ -27,7 +30,7 @@ def login_status(header):
 
 
 class Login(BaseHTTPRequestHandler):
-    """One request of nginx."""
+    """Answers one request of nginx."""
 
     def do_GET(self):
         status = login_status(self.headers.get("Authorization", ""))

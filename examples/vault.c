@@ -1,10 +1,10 @@
-/* Encrypts a file under a passphrase: vault seal FILE VAULT, and reads it back: vault open VAULT FILE
+/* Encrypts a file under a passphrase by `vault seal FILE VAULT`, and decrypts it by `vault open VAULT FILE`. To compile it:
  *
  *     cc vault.c $(pkg-config --cflags --libs libargon2-proved libsodium) -o vault
  *
- * The passphrase is typed, or is the first line of standard input. Argon2id makes the key of it. libsodium's secretstream
- * encrypts the file in chunks, and marks the last one. A vault begins with a header, which is authenticated: the version, the
- * costs and the salt. */
+ * You type the passphrase, or it is the first line of standard input. Argon2id makes the key from it. libsodium's secretstream
+ * encrypts the file in chunks, and marks the last chunk. A vault begins with a header, which is authenticated. The header
+ * contains the version, the costs and the salt. */
 #include <argon2_phc.h>
 #include <errno.h>
 #include <signal.h>
@@ -20,14 +20,14 @@ enum { KEY = crypto_secretstream_xchacha20poly1305_KEYBYTES, START = crypto_secr
 enum { MORE = crypto_secretstream_xchacha20poly1305_ABYTES, LAST = crypto_secretstream_xchacha20poly1305_TAG_FINAL };
 typedef crypto_secretstream_xchacha20poly1305_state state;
 
-/* The memory in KiB, the passes and the lanes of a new vault, and the most for a vault that is opened, which anybody may have
- * written. */
+/* The memory in KiB, the passes and the lanes of a new vault, and the largest ones for a vault that is opened. Anybody may have
+ * written the costs of that vault. */
 static const uint32_t costs_of_new[COSTS] = {65536, 3, 4}, most[COSTS] = {1048576, 16, 16};
 
-/* The name of the file beside the target, while there is one. */
+/* The name of the file beside the target, while this file exists. */
 static char beside[4096];
 
-/* Ends the program with a message, and leaves no file beside the target. */
+/* Removes the file beside the target, and ends the program with a message. */
 static void refuse(const char *path, const char *why)
 {
     if (*beside)
@@ -42,7 +42,7 @@ static void must(int holds, const char *path)
         refuse(path, strerror(errno));
 }
 
-/* Ends the program by a signal, and leaves no file beside the target. */
+/* Removes the file beside the target, and ends the program by a signal. */
 static void end(int number)
 {
     if (*beside)
@@ -51,8 +51,8 @@ static void end(int number)
     raise(number);
 }
 
-/* Begins the file beside the target, which only its owner may read. When all is written, it gets the name of the target, so that
- * the target has its old content or all of the new one. */
+/* Begins the file beside the target, which only its owner may read. When all is written, the file is renamed to the target. So
+ * the target has its old content or the whole new content. */
 static FILE *begin(const char *target)
 {
     FILE *out;
@@ -71,8 +71,8 @@ static FILE *begin(const char *target)
     return out;
 }
 
-/* Reads the first line of standard input, and returns its length. A terminal does not show what is typed. Signals that end or
- * stop the program wait until the terminal is as before. */
+/* Reads the first line of standard input, and returns its length. A terminal does not show what you type. Signals that end or
+ * stop the program wait until the settings of the terminal are restored. */
 static size_t read_line(const char *question, char *line)
 {
     struct termios before, hidden;
@@ -105,8 +105,8 @@ static size_t read_line(const char *question, char *line)
     return length;
 }
 
-/* Makes the key of a passphrase that is read. A new one is typed twice: with a typing error in it nobody can open the vault. The
- * salt is new for each vault, so no stored hash of the passphrase has the same bytes. */
+/* Reads a passphrase, and makes its key. You type a new passphrase twice, because nobody can open the vault if it has a typing
+ * error. The salt is new for each vault, so no stored hash of the passphrase has the same bytes. */
 static unsigned char *make_key(const char *path, int is_new, const uint32_t costs[COSTS], const unsigned char *salt)
 {
     argon2p_params params = ARGON2P_PARAMS_INIT;
@@ -159,7 +159,7 @@ static FILE *seal(FILE *in, const char *source, const char *target)
     return out;
 }
 
-/* Writes what is in a vault. If the vault was changed, the target does not get what was written. */
+/* Writes the content of a vault. If somebody changed the vault, the target does not get this content. */
 static FILE *open_vault(FILE *in, const char *source, const char *target)
 {
     static unsigned char chunk[CHUNK], sealed[CHUNK + MORE];

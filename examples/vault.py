@@ -1,7 +1,8 @@
-"""Encrypts a file under a passphrase: vault.py seal FILE VAULT, and reads it back: vault.py open VAULT FILE
+"""Encrypts a file under a passphrase by `vault.py seal FILE VAULT`, and decrypts it by `vault.py open VAULT FILE`.
 
-The passphrase is typed, or is the first line of standard input. Argon2id makes the key of it, and ChaCha20-Poly1305 encrypts the
-file, all of it in memory. A vault begins with a header, which is authenticated: the version, the costs, the salt and the nonce.
+You type the passphrase, or it is the first line of standard input. Argon2id makes the key from it, and ChaCha20-Poly1305 encrypts
+the whole file in memory. A vault begins with a header, which is authenticated. The header contains the version, the costs, the
+salt and the nonce.
 """
 
 import argparse
@@ -16,33 +17,33 @@ from cryptography.exceptions import InvalidTag
 from cryptography.hazmat.primitives.ciphers.aead import ChaCha20Poly1305
 
 NAME, VERSION = b"A2VAULT", 1
-# The name, the version, the costs, the salt and the nonce.
+# The header contains the name, the version, the costs, the salt and the nonce.
 HEADER = struct.Struct(">7sB3I16s12s")
-# The memory in KiB, the passes and the lanes of a new vault, and the most for a vault that is opened, which anybody may have
-# written.
+# The memory in KiB, the passes and the lanes of a new vault, and the largest ones for a vault that is opened. Anybody may have
+# written the costs of that vault.
 COSTS = 65536, 3, 4
 MOST = 1048576, 16, 16
 
 
 class Refused(Exception):
-    """Why a file is not encrypted or read back."""
+    """The reason why a file is not encrypted or decrypted."""
 
 
 def key_of(passphrase, costs, salt):
-    """The key of a passphrase. The salt is new for each vault, so no stored hash of the passphrase has the same bytes."""
+    """Returns the key of a passphrase. The salt is new for each vault, so no stored hash of the passphrase has the same bytes."""
     memory, passes, lanes = costs
     return PasswordHasher(passes, memory, lanes, hash_len=32).tag(passphrase, salt)
 
 
 def seal(content, passphrase):
-    """A vault of some bytes."""
+    """Returns a vault with this content."""
     salt, nonce = os.urandom(16), os.urandom(12)
     header = HEADER.pack(NAME, VERSION, *COSTS, salt, nonce)
     return header + ChaCha20Poly1305(key_of(passphrase, COSTS, salt)).encrypt(nonce, content, header)
 
 
 def opened(vault, passphrase):
-    """The bytes in a vault. No byte of a vault that was changed is returned."""
+    """Returns the content of a vault, or raises `Refused`. It returns no byte of a vault that somebody changed."""
     header, sealed = vault[: HEADER.size], vault[HEADER.size :]
     if len(header) < HEADER.size or not header.startswith(NAME):
         raise Refused("it is no vault")
@@ -58,7 +59,7 @@ def opened(vault, passphrase):
 
 
 def read_passphrase(is_new):
-    """The passphrase. A new one is typed twice: with a typing error in it nobody can open the vault."""
+    """Returns the passphrase. You type a new passphrase twice, because nobody can open the vault if it has a typing error."""
     if not sys.stdin.isatty():
         found = sys.stdin.buffer.readline().removesuffix(b"\n")
     else:
@@ -71,7 +72,7 @@ def read_passphrase(is_new):
 
 
 def put(path, content):
-    """Gives a path this content, which is written beside it first, so the path has its old content or all of the new one."""
+    """Writes this content beside a path, and renames it. So the path has its old content or the whole new content."""
     file, beside = tempfile.mkstemp(dir=os.path.dirname(path) or ".")
     try:
         with open(file, "wb") as it:
@@ -85,7 +86,7 @@ def put(path, content):
 
 
 def main():
-    parser = argparse.ArgumentParser(description="encrypts a file under a passphrase, and reads it back")
+    parser = argparse.ArgumentParser(description="encrypts a file under a passphrase, and decrypts it")
     parser.add_argument("command", choices=["seal", "open"])
     parser.add_argument("source")
     parser.add_argument("target")
