@@ -2,9 +2,10 @@
  * SPDX-FileCopyrightText: 2026 The maintainers of this repository
  * SPDX-License-Identifier: MIT OR Apache-2.0
  *
- * How each command starts. The command's file holds the program as compiled for one or more levels of x86-64. This start calls the
- * program of the highest level that the processor has. Before, it forbids core dumps, and gives argon2-passwd a umask by which a new
- * file is for its owner only. While the program runs, the start asks for huge pages, and hides what is typed after a question.
+ * How each command starts. The command's file contains the program as compiled for one or more levels of x86-64. This start
+ * calls the program of the highest level that the processor has. Before the call it forbids core dumps, and sets a umask for
+ * argon2-passwd, so that a new file is for its owner only. While the program runs, the start asks for huge pages, and hides
+ * what is typed after a question.
  *
  * build/link compiles this file, and defines NAME as the command's name.
  */
@@ -58,7 +59,7 @@ static struct sigaction actions[COUNT];
 static volatile sig_atomic_t is_hidden;
 static struct termios modes;
 
-/* Has the terminal hide what is typed. */
+/* Makes the terminal hide what is typed. */
 static void hide(void)
 {
     struct termios hidden = modes;
@@ -103,20 +104,20 @@ static void begin_hiding(void)
     const struct sigaction taking = {.sa_handler = take_signal, .sa_flags = SA_NODEFER | SA_RESTART};
     int i;
 
-    /* (tcdrain stops a command in the background, whose terminal has the modes of a shell, until it is in the foreground) */
+    /* (tcdrain stops a command in the background until it is in the foreground; until then the terminal has a shell's modes) */
     if (is_hidden || tcdrain(STDIN_FILENO) != 0 || tcgetattr(STDIN_FILENO, &modes) != 0)
         return;
     is_hidden = true;
     for (i = 0; i < COUNT; i++) {
         sigaction(SIGNALS[i], &taking, &actions[i]);
-        /* (what the caller has the command ignore stays ignored) */
+        /* (a signal that the caller told the command to ignore stays ignored) */
         if (actions[i].sa_handler == SIG_IGN)
             sigaction(SIGNALS[i], &actions[i], NULL);
     }
     hide();
 }
 
-/* Has the terminal show again what is typed. */
+/* Makes the terminal show what is typed again. */
 static void end_hiding(void)
 {
     int i, error = errno;
@@ -131,8 +132,8 @@ static void end_hiding(void)
     errno = error;
 }
 
-/* Writes the bytes of several parts. A question is text on standard error that does not end its line: the terminal hides what is
- * typed from before the question until the program has ended the line. */
+/* Writes the bytes of several parts. A question is text on standard error that does not end its line. The terminal begins to
+ * hide what is typed before the question is written, and shows it again after the program has ended the line. */
 ssize_t __wrap_writev(int file, const struct iovec *parts, int count)
 {
     const char *last = NULL;
@@ -150,7 +151,7 @@ ssize_t __wrap_writev(int file, const struct iovec *parts, int count)
     return written;
 }
 
-/* The same for bytes in one place. */
+/* Does the same for bytes in one place. */
 ssize_t __wrap_write(int file, const void *bytes, size_t count)
 {
     const struct iovec part = {(void *)(uintptr_t)bytes, count};
@@ -163,11 +164,11 @@ int main(int argc, char **argv, char **environment)
     /* A new file with accounts is for its owner only. */
     if (strcmp(NAME, "argon2-passwd") == 0)
         umask(077);
-    /* A core dump would have the password. The kernel does not look at the limit if a program collects core dumps. */
+    /* A core dump would contain the password. The kernel does not look at the limit if a program collects core dumps. */
     setrlimit(RLIMIT_CORE, &(struct rlimit){0, 0});
     prctl(PR_SET_DUMPABLE, 0, 0, 0, 0);
     atexit(end_hiding);
-    /* (the program of the lowest level says what an older processor lacks) */
+    /* (on an older processor, the program of the lowest level says what the processor lacks) */
     if (main_v4 != NULL && (__builtin_cpu_supports("x86-64-v4") || (main_v3 == NULL && main_v2 == NULL)))
         return main_v4(argc, argv, environment);
     if (main_v3 != NULL && (__builtin_cpu_supports("x86-64-v3") || main_v2 == NULL))
