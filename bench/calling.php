@@ -1,5 +1,5 @@
 <?php
-// Hashes and verifies by PHP's own functions. The status is 0 only if each answer is right.
+// Hashes and verifies with PHP's own functions. The status is 0 only if each answer is right.
 
 foreach ([PASSWORD_ARGON2I, PASSWORD_ARGON2ID] as $kind) {
     $costs = ['memory_cost' => 1024, 'time_cost' => 3, 'threads' => 1];
@@ -12,6 +12,6 @@ foreach ([PASSWORD_ARGON2I, PASSWORD_ARGON2ID] as $kind) {
         exit(1);
     }
 }
-// (of the reference's test.c)
+// (this text is from the reference's test.c)
 $known = '$argon2id$v=19$m=256,t=2,p=2$c29tZXNhbHQ$bQk8UB/VmZZF4Oo79iDXuL5/0ttZwg2f/5U52iv1cDc';
 exit(password_verify('password', $known) ? 0 : 1);

@@ -1,4 +1,4 @@
-"""Hashes and verifies by Debian's python3-argon2, and prints the files of libargon2 that the process has mapped.
+"""Hashes and verifies with Debian's python3-argon2, and prints the files of libargon2 that the process has mapped.
 
 The status is 0 only if each answer is right.
 """
@@ -14,7 +14,7 @@ except exceptions.VerifyMismatchError:
     pass
 else:
     raise SystemExit("a wrong password is accepted")
-# (the tag is what the reference's test.c has)
+# (the tag is from the reference's test.c)
 tag = low_level.hash_secret_raw(b"password", b"somesalt", 2, 256, 2, 32, Type.ID)
 assert tag.hex() == "6d093c501fd5999645e0ea3bf620d7b8be7fd2db59c20d9fff9539da2bf57037"
 long = low_level.hash_secret(b"password", b"somesalt" * 8, 2, 256, 2, 128, Type.ID)

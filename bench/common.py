@@ -7,7 +7,7 @@ import sys
 
 HERE = os.path.dirname(os.path.realpath(__file__))
 TOP = os.path.dirname(HERE)
-# What bash runs to use the scripts of this repository.
+# The commands with which bash reads the scripts of this repository.
 SCRIPTS = 'name=bench usage=; source "$0/build/common"; source "$root/build/levels"; '
 # An environment in which the C library gives large memory in huge pages.
 HUGE_PAGES = {**os.environ, "GLIBC_TUNABLES": "glibc.malloc.hugetlb=1"}
@@ -21,7 +21,7 @@ def processor():
 
 
 def run(*words, folder=None, env=None):
-    """Runs a command and returns what it prints, or ends with what it says of its failure."""
+    """Runs a command and returns what it prints. If it fails, this ends with its output."""
     done = subprocess.run(words, cwd=folder, env=env, stdin=subprocess.DEVNULL, capture_output=True, text=True)
     if done.returncode:
         sys.exit(f"{' '.join(words)}: {done.stdout[-2000:]}{done.stderr[-2000:]}")
@@ -29,7 +29,7 @@ def run(*words, folder=None, env=None):
 
 
 def levels():
-    """Returns the levels of x86-64 that this processor has, of those that the programs are built for."""
+    """Returns the levels of x86-64 that this processor has, of the levels for which the programs are built."""
     each = 'for level in "${all_levels[@]}"; do [[ $level > $processor ]] || echo "$level"; done'
     return run("bash", "-c", f"{SCRIPTS} find_processor; {each}", TOP).split()
 
@@ -49,11 +49,12 @@ def write(path, text):
 
 
 def built(top, name, libraries, sources, words=()):
-    """Builds a program over libraries of this repository, with what these use, and of the kit, once for each processor.
+    """Builds a program for each level of x86-64 that this processor has, and returns its paths by their levels.
 
-    Returns its paths by processor. `sources` are its files by their names, and `words` are the
-    arguments of the run that ends each build. All is written below `top`. (A source in this folder
-    ends in `.rattle`, since `rt ci` refuses a file `.rt` that belongs to no crate.)
+    `libraries` names the libraries that the program uses, of this repository and of the kit. `sources`
+    are the texts of its files by their names, and `words` are the arguments of the run that ends each
+    build. Everything is written below `top`. (A source in this folder ends in `.rattle`, since `rt ci`
+    refuses a file `.rt` that belongs to no crate.)
     """
     lines = {line.partition(":")[0]: line for line in read(f"{TOP}/crates.txt").splitlines()}
     own, new = {}, libraries.split()

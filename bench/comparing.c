@@ -1,17 +1,15 @@
 /*
- * Compares libraries of argon2.h:
+ * Compares libraries that have the functions of argon2.h:
  *
- *   comparing requests COUNT OTHER OURS    random contexts, a third with faults
- *   comparing texts COUNT OTHER OURS       texts, half of them damaged, and writing them
- *   comparing times ROUNDS LIBRARY..       memory and passes of some kinds, one lane and four, in turns, each the third hash
- *                                          of a process, so that no library gets memory that another has used
+ *   comparing requests COUNT OTHER OURS    hashes random contexts, a third of them with faults
+ *   comparing texts COUNT OTHER OURS       writes texts, and verifies them, after half of them were damaged
+ *   comparing times ROUNDS LIBRARY..       times hashes at some costs, with one lane and with four
+ *   comparing rates ROUNDS LIBRARY..       hashes for a second by one thread, and by four threads at once
  *
- *   comparing rates ROUNDS LIBRARY..       hashes by one thread and by four side by side, for a second each, in turns; a library
- *                                          may be libsodium
- *
- * The first two print a line of counts, after those in which the libraries differ; `times` prints lines of
- * memory, passes, lanes, and each library's least milliseconds of wall time and of processor time, and `rates` lines of memory,
- * passes, threads, and the most hashes a second of each library.
+ * The first two print the cases in which the libraries differ, and then a line of counts. In `times` and `rates` the libraries
+ * take turns. `times` prints lines of memory, passes, lanes, and the least milliseconds of wall time and of processor time of
+ * each library. It times the third hash of a process, so that no library gets memory that another library has used. `rates`
+ * prints lines of memory, passes, threads, and the most hashes a second of each library. A library of `rates` may be libsodium.
  */
 #define _GNU_SOURCE
 #include <argon2.h>
@@ -102,7 +100,7 @@ static int requests(long count) {
     return codes || outputs;
 }
 
-/* A text with one byte changed, cut off, taken out or put in. */
+/* Changes a byte of a text, cuts the text off, removes a byte, or inserts a byte. */
 static void damage(char *text) {
     static const char marks[] = "$,=amptv0129A/+-";
     size_t n = strlen(text), at = below(n);
@@ -169,7 +167,7 @@ static double processor(void) {
     return (used.ru_utime.tv_sec + used.ru_stime.tv_sec) * 1e3 + (used.ru_utime.tv_usec + used.ru_stime.tv_usec) / 1e3;
 }
 
-/* Milliseconds of wall time and of processor time of the third hash of a new process. */
+/* Measures the milliseconds of wall time and of processor time of the third hash of a new process. */
 static int measured(const struct library *it, uint32_t m, uint32_t t, uint32_t lanes, double found[2]) {
     int ends[2], status;
     if (pipe(ends)) return 1;
@@ -216,7 +214,7 @@ static struct work {
     double rate;
 } works[THREADS];
 
-/* Hashes for a second, and finds how many hashes a second that makes. */
+/* Hashes for a second, and computes the hashes a second. */
 static void *hash_on(void *at) {
     static const uint8_t salt[] = "somesaltsomesalt";
     struct work *it = at;
@@ -235,7 +233,7 @@ static void *hash_on(void *at) {
     return NULL;
 }
 
-/* Hashes a second by so many threads side by side. */
+/* Returns the hashes a second of `count` threads that hash at once. */
 static double rate(const struct library *library, uint32_t m, uint32_t t, int count) {
     pthread_t threads[THREADS];
     double all = 0;

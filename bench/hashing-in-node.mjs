@@ -1,5 +1,5 @@
-// Prints the times of hashes, in milliseconds of the processor: node bench/hashing-in-node.mjs FOLDER ROUNDS MODULE.. The folder
-// has the modules, and in argon2-proved the package.
+// Prints the times of hashes, in milliseconds of processor time: node bench/hashing-in-node.mjs FOLDER ROUNDS MODULE.. FOLDER
+// contains the modules, and its folder argon2-proved is the package.
 
 import { readFileSync } from "node:fs";
 import { join } from "node:path";

@@ -1,4 +1,4 @@
-// Posts the times of hashes, in milliseconds of wall time. The page's title has the rounds and the names of the modules.
+// Posts the times of hashes, in milliseconds of wall time. The title of the page is the rounds and the names of the modules.
 
 import { load } from "./argon2-proved/page.mjs";
 import { timesOf } from "./hashing.mjs";

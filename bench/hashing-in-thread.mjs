@@ -1,4 +1,4 @@
-// Hashes by a module of the reference's C, in a thread: takes costs, and answers the tag.
+// Hashes with a module of the reference's C, in a thread. A message is the costs, and its answer is the tag.
 
 import { parentPort, workerData } from "node:worker_threads";
 import { hasherOf } from "./hashing.mjs";

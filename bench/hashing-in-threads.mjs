@@ -1,6 +1,6 @@
 // Prints the hashes a second that 1, 2 and 4 threads of node make: node bench/hashing-in-threads.mjs FOLDER ROUNDS MODULE..
-// The folder has the package in argon2-proved, and the modules, which are made of the reference's C. Each figure is the highest
-// of the rounds.
+// FOLDER contains the modules, which are compiled from the reference's C, and its folder argon2-proved is the package. The
+// highest number of the rounds counts.
 
 import * as crypto from "node:crypto";
 import { once } from "node:events";
@@ -16,7 +16,7 @@ const { createPool } = await import(pathToFileURL(join(folder, "argon2-proved/no
 const SIZES = [1, 2, 4];
 const MILLISECONDS = 2000;
 
-// What hashes in some threads: a function of costs that returns the promise of a tag, and a function that ends the threads.
+// Each peer hashes in `size` threads. `hash` gets the costs, and returns the promise of a tag. `end` ends the threads.
 const PEERS = {
   "the package": (size) => {
     const pool = createPool({ size });
@@ -26,7 +26,7 @@ const PEERS = {
 };
 if (crypto.argon2) PEERS["node's crypto.argon2"] = () => ({ hash: hashOfNode, end: () => {} });
 
-// The reference's C in some threads, each of which makes one hash at a time.
+// Hashes with the reference's C in `size` threads. Each thread makes one hash at a time.
 function referenceOf(bytes, size) {
   const script = new URL("./hashing-in-thread.mjs", import.meta.url);
   const idle = Array.from({ length: size }, () => new Worker(script, { workerData: bytes }));
@@ -45,7 +45,7 @@ function hashOfNode({ memory, passes }) {
   return promisify(crypto.argon2)("argon2id", settings);
 }
 
-// The hashes a second if as many calls as there are threads are always under way.
+// Returns the hashes a second while `size` calls are always under way.
 async function rateOf(hash, size, costs, tags) {
   const begun = performance.now();
   let count = 0;
@@ -67,7 +67,7 @@ for (const costs of COSTS.slice(0, 2)) {
     for (let round = 0; round <= rounds; round++) {
       for (const { name, hash } of peers) {
         const rate = await rateOf(hash, size, costs, tags);
-        // (the first round starts the threads)
+        // (the first round does not count, because it starts the threads)
         if (round > 0) most.get(name)[SIZES.indexOf(size)] = Math.max(rate, most.get(name)[SIZES.indexOf(size)] ?? 0);
       }
     }

@@ -1,4 +1,4 @@
-// Times hashes by several modules of WebAssembly, in node and in pages.
+// Times hashes with several modules of WebAssembly, in node and in pages.
 
 export const COSTS = [
   { memory: 65536, passes: 3 },
@@ -8,7 +8,7 @@ export const COSTS = [
 export const [PASSWORD, SALT] = ["password", "somesaltsomesalt"].map((it) => new TextEncoder().encode(it));
 export const LENGTH = 32;
 
-// What hashes by the reference's C.
+// Returns a function that hashes with the reference's C.
 function referenceOf({ exports }) {
   const { memory, malloc, free, argon2_hash: hash } = exports;
   const put = (bytes) => {
@@ -28,14 +28,14 @@ function referenceOf({ exports }) {
   };
 }
 
-/** What hashes by a module. A module that exports `malloc` is the reference's, and needs no `load` of the package. */
+/** Returns a function that hashes with a module. A module that exports `malloc` is the reference's, and needs no `load`. */
 export async function hasherOf(bytes, load) {
   const module = await WebAssembly.compile(bytes);
   if (!WebAssembly.Module.exports(module).some(({ name }) => name === "malloc")) {
     const argon2 = await load(module);
     return (costs) => argon2.raw(PASSWORD, SALT, costs);
   }
-  // (the system's calls of the C library are never called)
+  // (the module imports system calls for its C library, and never calls them)
   const imports = {};
   for (const { module: group, name } of WebAssembly.Module.imports(module)) (imports[group] ??= {})[name] = () => 0;
   const instance = new WebAssembly.Instance(module, imports);
@@ -43,8 +43,8 @@ export async function hasherOf(bytes, load) {
   return referenceOf(instance);
 }
 
-/** Lines with the least milliseconds that a hash takes by each of some modules, in turns, and whether all make the same tag. It
- * takes the modules' names, what reads one, the package's `load`, the rounds, and a clock of milliseconds. */
+/** Returns lines with the least milliseconds of a hash with each module, and whether all modules make the same tag. The modules
+ * take turns. `read` returns the bytes of a module by its name, `load` is from the package, and `clock` returns milliseconds. */
 export async function timesOf(names, read, load, rounds, clock) {
   const hashers = await Promise.all(names.map(async (name) => hasherOf(await read(name), load)));
   return COSTS.flatMap((costs) => {

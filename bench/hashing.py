@@ -1,6 +1,6 @@
-"""Hashes three times by `PasswordHasher().hash`, and prints the costs and the least seconds of a hash.
+"""Hashes three times with `PasswordHasher().hash`, and prints the costs and the least seconds of a hash.
 
-  hashing.py [FOLDER]     FOLDER has an unpacked wheel, whose binding takes the place of Debian's
+  hashing.py [FOLDER]     FOLDER is an unpacked wheel, whose binding replaces Debian's
 """
 
 import importlib

@@ -1,5 +1,5 @@
-/* Hashes standard input by a library of C, as a separate process: M T P SALT; prints the tag.
-   Built with -DUSE_ARGON2 over libargon2, or with -DUSE_SODIUM over libsodium (one lane). */
+/* Hashes standard input with a library for C, and prints the tag. The arguments are M T P SALT. With
+   -DUSE_ARGON2 the library is libargon2, and with -DUSE_SODIUM it is libsodium, which has one lane only. */
 #include <stdio.h>
 #include <stdlib.h>
 #include <string.h>

@@ -1,5 +1,5 @@
-"""Times accounts in a file by Python's `sqlite3` with argon2-cffi. `bench/store` says what is done; each time is printed on
-standard error as its name and nanoseconds.
+"""Times accounts in a file by Python's `sqlite3` with argon2-cffi. `bench/store` describes the calls. Each time is printed on
+standard error, as its name and its nanoseconds.
 
   storing.py TABLE PATH COUNT     TABLE is the statement that makes the table
 
@@ -22,7 +22,7 @@ def say(what, start):
 
 
 def opened(table, path):
-    """The database, after each of its rows was read. A table is made if it is new."""
+    """Opens the database, with a table if it is new, and reads each of its rows. Returns it, and whether it is new."""
     is_new = not os.path.exists(path)
     start = time.perf_counter_ns()
     db = sqlite3.connect(path)

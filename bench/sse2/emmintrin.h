@@ -1,4 +1,4 @@
-/* The instructions of SSE2 that the reference's opt.c takes, as instructions of WebAssembly. */
+/* The instructions of SSE2 that the reference's opt.c uses, as instructions of WebAssembly. */
 #include <wasm_simd128.h>
 
 typedef v128_t __m128i;

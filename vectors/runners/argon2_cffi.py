@@ -12,7 +12,7 @@ TYPES = {"argon2d": Type.D, "argon2i": Type.I, "argon2id": Type.ID}
 
 
 def tag(group, test):
-    """The tag in hexadecimal digits, or None. (Of the package's functions only `core` takes a secret and data.)"""
+    """Returns the tag in hexadecimal digits, or None. (Only the function `core` of the package accepts a secret and data.)"""
     out, kept = ffi.new("uint8_t[]", test["length"] or 1), []
     context = ffi.new("argon2_context *", {"out": out, "outlen": test["length"], "version": group["version"], "threads": 1})
     context.m_cost, context.t_cost, context.lanes = test["m"], test["t"], test["p"]

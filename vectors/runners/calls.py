@@ -1,5 +1,5 @@
 #!/usr/bin/env python3
-"""Tries the crates on the files by the program of the table of tests: calls.py PROGRAM. Each case is a line of the table."""
+"""Tries the crates on the files: calls.py PROGRAM. PROGRAM reads lines of the table of tests, and each case becomes such lines."""
 
 import base64
 import subprocess
@@ -19,7 +19,7 @@ ERRORS = {
     "LanesInvalid": 'ParamInvalid { name: "p" }',
     "AlgorithmUnknown": "Algorithm",
     "VersionUnknown": "Version",
-    # of hashes
+    # (for hashes)
     "LanesTooFew": "ThreadsTooFew",
     "LanesTooMany": "ThreadsTooMany",
     "PassesTooFew": "TimeTooSmall",
@@ -27,7 +27,7 @@ ERRORS = {
 
 
 def word(value):
-    """Bytes as a word of the table, whether they are in hexadecimal digits or a text."""
+    """Returns bytes, which are given in hexadecimal digits, as a word of the table."""
     return f"1*{value}" if value else "0*"
 
 
@@ -36,7 +36,7 @@ def text_word(text):
 
 
 def hash_lines(number, group, test):
-    """The lines of a tag. A context of its own, and associated data of any length by the call."""
+    """Returns the lines of a tag. The tag gets its own context, and the call gets the associated data, of any length."""
     settings = f"{group['algorithm']} {group['version']} {test['m']} {test['t']} {test['p']} none secret={word(test['secret'])}"
     reason = test.get("reason")
     if reason == "VersionUnknown":
@@ -55,7 +55,7 @@ def base64_of(digits):
 
 
 def text_line(test):
-    """The line of a text: the call answers with what the text says."""
+    """Returns the line of a text. The answer of the call is what the text says."""
     call = f"Stored::try_from {text_word(test['text'])}"
     if "reason" in test:
         return f"{call} = {ERRORS[test['reason']]}"

@@ -1,4 +1,4 @@
-"""What the runners share: the cases of a file, and the lines that say what a program answers otherwise."""
+"""What the runners share: the cases of a file, and the lines for the cases to which a program gives another answer."""
 
 import json
 import os
@@ -9,15 +9,15 @@ NAMES = ("argon2_hash", "argon2_long_hash", "blake2b", "phc_argon2", "argon2_ver
 
 
 def cases(name):
-    """The tests of a file, each with its group."""
+    """Returns the tests of a file, each with its group."""
     with open(f"{FOLDER}/{name}.json", encoding="utf-8") as file:
         return [(group, test) for group in json.load(file)["testGroups"] for test in group["tests"]]
 
 
 def run(answers):
-    """Tries functions, by the names of their files, on all cases: each takes a group and a test, and returns whether the program
-    answers as the test says, or None if the program has no such function. Prints each case that it answers otherwise, and last
-    'N passed, M failed, K skipped'. The status is 1 if one failed."""
+    """Tries a program on all cases of some files. `answers` has a function for the name of each file. The function gets a group
+    and a test, and returns whether the program answers as the test says, or None if the program can't answer. Prints each case
+    that failed, and last 'N passed, M failed, K skipped'. The status is 1 if a case failed."""
     passed = failed = skipped = 0
     for name, answer in answers.items():
         for group, test in cases(name):
@@ -32,11 +32,11 @@ def run(answers):
 
 
 def has_value(test, found):
-    """Whether a value, in hexadecimal digits, is that of a test. It is None if the program refuses."""
+    """Returns whether a test allows a value, in hexadecimal digits. `found` is None if the program refuses."""
     wanted = next((test[it] for it in ("tag", "hash", "digest") if it in test), None)
     return found == wanted or found is None and test["result"] == "acceptable"
 
 
 def accepts(test, found):
-    """Whether an acceptance of a text is as a test says."""
+    """Returns whether a test allows that a program accepts a text, or that it does not. `found` is whether it accepts."""
     return found == (test["result"] != "invalid") or not found and test["result"] == "acceptable"

@@ -37,7 +37,7 @@ def has_tag(group, test):
 
 
 def verified(text, password):
-    """The code of verifying a text. The caller names the algorithm, which the text begins with."""
+    """Returns the code of verifying a text. The caller names the algorithm, which is the beginning of the text."""
     kind = TYPES.get(text[1:].split("$")[0], TYPES["argon2id"])
     return LIBRARY.argon2_verify(text.encode(), password, ctypes.c_size_t(len(password)), kind)
 

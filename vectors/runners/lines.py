@@ -12,7 +12,7 @@ def word(value):
 
 
 def request(name, group, test):
-    """The line for a test."""
+    """Returns the words of the line for a test."""
     if name == "argon2_hash":
         names = ("m", "t", "p", "password", "salt", "secret", "data")
         return ["hash", test["length"], group["algorithm"], group["version"], *(test[it] for it in names)]
@@ -28,7 +28,7 @@ ANSWERS = iter(subprocess.run(sys.argv[1:], input=GIVEN, stdout=subprocess.PIPE,
 
 
 def is_right(_, test):
-    """Whether the next answer is that of a test. The program answers in the order of the requests."""
+    """Returns whether the next answer is the answer of a test. The program answers in the order of the requests."""
     answer = next(ANSWERS)
     if answer == "unknown":
         return None

@@ -1,5 +1,5 @@
 // Tries the package for npm on the files: node node.mjs ENTRY, where ENTRY is the file node.mjs of the package. It prints each
-// case that the package answers otherwise, and last 'N passed, M failed, K skipped'.
+// case to which the package gives another answer, and last 'N passed, M failed, K skipped'.
 
 import { readFileSync } from "node:fs";
 import { pathToFileURL } from "node:url";

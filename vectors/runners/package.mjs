@@ -1,9 +1,9 @@
-// What the package for npm answers to a case of each file, and what it has to answer: a value, the code of a refusal, or one of
-// several codes. Node and pages import this.
+// ANSWERS has a function for each file. It returns the answer of the package for npm to a case, and the wanted answer. An answer
+// is a value or the code of a refusal. For some cases, any of several codes is right. Node and pages import this.
 
 const CODES = {
   Grammar: "TEXT_INVALID",
-  // (of a text that also lacks parameters the package says this)
+  // (for a text that also lacks parameters, the package answers one of the other codes)
   Incomplete: ["TEXT_INCOMPLETE", "TEXT_PARAMETERS", "TEXT_MEMORY"],
   ParametersInvalid: "TEXT_PARAMETERS",
   KeyidInvalid: "TEXT_KEYID",
@@ -25,13 +25,13 @@ const BOUND = { memory: 2 ** 32 - 1, passes: 2 ** 10, lanes: 2 ** 10, minLength:
 export const toHex = (bytes) => Array.from(bytes, (it) => it.toString(16).padStart(2, "0")).join("");
 export const fromHex = (digits) => Uint8Array.from(digits.match(/../g) ?? [], (it) => parseInt(it, 16));
 
-/** The inputs of a tag, as the package takes them. */
+/** Returns the inputs of a tag, as the package accepts them. */
 export function inputsOf({ algorithm, version }, { m, t, p, length, ...fields }) {
   const [password, salt, secret, data] = ["password", "salt", "secret", "data"].map((it) => fromHex(fields[it]));
   return [password, salt, { algorithm, version, memory: m, passes: t, lanes: p, length, secret, data }];
 }
 
-/** What a call returns, or the code of the error that it throws. */
+/** Returns what a call returns, or the code of the error that it throws. */
 function found(call) {
   try {
     return call();
@@ -41,7 +41,7 @@ function found(call) {
   }
 }
 
-/** Whether the package answers what it has to. */
+/** Returns whether the answer of the package is a wanted answer. */
 export const isRight = ({ found, wanted }) => [wanted].flat().includes(found);
 
 export const ANSWERS = {
