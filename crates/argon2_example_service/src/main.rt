@@ -17,6 +17,13 @@ use std::random::RandomSource;
 mod hashing;
 mod service;
 
+// A service reads its secrets from files that are not with the hashes. It refuses an empty file, because an empty secret is no
+// secret.
+const SECRET: &[u8] = b"the secret";
+
+// The secret before the last change, or nothing if the hashes were made without a secret.
+const OLD_SECRET: &[u8] = b"";
+
 fn main(rt: HostRuntime) -> anyhow::Result<()> {
     hashing::hash_and_verify(&rt)?;
 
@@ -24,15 +31,15 @@ fn main(rt: HostRuntime) -> anyhow::Result<()> {
     rt.fill_bytes(&mut seed)?;
     let mut rng = ChaCha20Rng::from_seed(seed);
 
-    // The least costs, for a quick test: a service takes `Argon2::default()` as its target.
+    // The least costs, for a quick test. The costs of a service are `Params::DEFAULT`.
     let params = Params::new(8, 1, 1, None)?;
-    let target = Argon2::new(Algorithm::Argon2id, Version::V0x13, params);
+    let target = Argon2::new_with_secret(SECRET, Algorithm::Argon2id, Version::V0x13, params)?;
     let bound = Bound {
         m_cost: 65536,
         t_cost: 4,
         p_cost: 4,
     };
-    let policy = Policy::new(rt.alloc(), target, bound)?;
+    let policy = Policy::new(rt.alloc(), target, bound)?.with_old_secret(OLD_SECRET)?;
 
     serve(&rt, &mut rng, open(&rt, "accounts.db", Wary, policy)?)
 }

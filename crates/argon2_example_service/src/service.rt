@@ -3,12 +3,9 @@
 ghost use Rattle.std.specs.Prelude.{◌≡◌, ◌⊎◌, false, IfErr, IfOk, IsTrue, MatchResult};
 ghost use Rattle.std.specs.FinMap.{get};
 ghost use Rattle.sqlite_wal.specs.Files.{image_at};
-ghost use Rattle.argon2_policy.specs.Policy.{Denies, policy_value};
-ghost use Rattle.argon2_rows.specs.Names.{Texts};
-ghost use Rattle.argon2_rows.specs.Table.{IsHonest};
-ghost use Rattle.argon2_store.specs.AccountFile.{HasNames, IsFileFrom, database_of};
-ghost use Rattle.argon2_accounts.specs.Accounts.{AdmitsName, RelatesNames};
-ghost use Rattle.argon2_accounts.specs.Errors.{Denial, is_account_refusal};
+ghost use Rattle.argon2_store.specs.AccountFile.{IsFileFrom};
+ghost use Rattle.argon2_accounts.specs.Accounts.{AdmitsName, Denial, Denies, HasNames, IsHonest, RelatesNames, Texts, database_of};
+ghost use Rattle.argon2_accounts.specs.Accounts.{is_account_refusal, policy_value};
 
 use argon2_accounts::{AccountError, Accounts};
 use argon2_policy::Policy;
@@ -62,8 +59,8 @@ pub fn has_password<R: Rng, S: Store>(
 /// Gives a new name a password, and copies the log into the file, so that the file has it without the log.
 ///
 /// # Errors
-/// - those of [`Accounts::register`]: the names are as before, unless the disk failed during a commit.
-/// - those of [`AccountFile::checkpoint`]: the name is registered.
+/// - the errors of [`Accounts::register`]: the names are as before, unless the disk failed during a commit.
+/// - the errors of [`AccountFile::checkpoint`]: the name is registered.
 pub fn sign_up<R: Rng, D: Disk>(
     accounts: &mut Accounts<'_, FileStore<D>>,
     rng: &mut R,
