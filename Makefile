@@ -31,12 +31,11 @@ help:
 	@echo
 	@echo 'It needs the Rattle kit, whose folder bin is on PATH, cc, binutils, flock and python3.'
 
-# What is missing is said before anything is made.
+# Each recipe that builds something begins with $(needs), and reports what is missing before it makes anything. So `make install`
+# needs no Rattle kit if all is built.
 needed = rt cc objcopy flock python3
 missing = $(strip $(foreach command,$(needed),$(if $(shell command -v $(command)),,$(command))))
-.PHONY: needs
-needs:
-	$(if $(missing),$(error missing: $(missing). `make help` says what is needed, and README.md where the Rattle kit is from))
+needs = $(if $(missing),$(error missing: $(missing). `make help` says what is needed, and README.md where the Rattle kit is from))
 
 # The crate of a command, and what the command is made of: the sources and the specifications of that crate and of those that
 # crates.txt names for it.
@@ -47,8 +46,8 @@ sources = $(foreach it,$(call crates,$(call crate,$(1))),$(call files,crates/$(i
 
 # An object for each level; a command of each folder is linked of them. (An object is made by `rt`, which proves what has changed.)
 define rules
-$(LEVELS:%=out/$(1).%.o): out/$(1).%.o: $(call sources,$(1)) crates.txt | needs
-	build/object $(call crate,$(1)) $$* $$@
+$(LEVELS:%=out/$(1).%.o): out/$(1).%.o: $(call sources,$(1)) crates.txt
+	$$(needs)build/object $(call crate,$(1)) $$* $$@
 $(1): out/$(1).$(HERE).o start/start.c
 	build/link $$@ $$<
 out/all/$(1): $(LEVELS:%=out/$(1).%.o) start/start.c
@@ -78,16 +77,16 @@ out/man/%: man/% VERSION
 # Beside the library of the system, or with DROP_IN=yes in its place.
 drop_in = $(if $(DROP_IN),--drop-in)
 
-libargon2: | needs
-	build/libargon2 out/libargon2
-install-libargon2: | needs
-	build/install-libargon2 $(drop_in) --prefix "$(PREFIX)"
+libargon2:
+	$(needs)build/libargon2 out/libargon2
+install-libargon2:
+	$(needs)build/install-libargon2 $(drop_in) --prefix "$(PREFIX)"
 uninstall-libargon2:
 	build/uninstall-libargon2 $(drop_in) --prefix "$(PREFIX)"
-npm: | needs
-	build/npm out/npm
-release: | needs
-	build/release out/release
+npm:
+	$(needs)build/npm out/npm
+release:
+	$(needs)build/release out/release
 
 test:
 	tests/run
