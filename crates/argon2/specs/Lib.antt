@@ -15,6 +15,7 @@ pub mod NamedTexts
 pub mod Params
 pub use Rattle.argon2_base.specs.PhcFields
 pub use Rattle.argon2_base.specs.PhcText
+pub mod Policy
 pub mod Refusals
 pub mod Rfc9106
 pub mod Runs

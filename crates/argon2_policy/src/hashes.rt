@@ -19,6 +19,17 @@ struct Hash {
     password_len: usize,
 }
 
+/// The settings that an `Argon2` hashes under.
+pub(crate) fn settings_of(argon2: &Argon2<'_>) -> Settings
+    ensures { settings_value result ≡ settings_of argon2.now }
+{
+    Settings {
+        algorithm: argon2.algorithm(),
+        version: argon2.version(),
+        params: *argon2.params(),
+    }
+}
+
 /// The hashes that a call has asked for, at most two, in order. Only the methods that hash add to them.
 #[derive(Drop)]
 pub(crate) struct Hashes {
@@ -66,11 +77,7 @@ impl Hashes {
         requires fits { tag_length (settings_of argon2.now) ≤ 64 }
         ensures { self.new ≡ self.old ++ hash_of (settings_of argon2.now) password.now ∷ [] }
     {
-        let settings = Settings {
-            algorithm: argon2.algorithm(),
-            version: argon2.version(),
-            params: *argon2.params(),
-        };
+        let settings = settings_of(argon2);
         match argon2.hash_password_with_salt(alloc, password, &[0; 16]) {
             // (these are refused without a hash)
             Err(Error::SaltInvalid | Error::OutputSize) => {}

@@ -9,7 +9,7 @@ ghost use Rattle.argon2.specs.Refusals.{max_len};
 ghost use Rattle.argon2.specs.TextHashing.{IsTarget, target_of};
 
 use crate::denial::Denial;
-use crate::hashes::Hashes;
+use crate::hashes::{Hashes, settings_of};
 use crate::login::{LoggedIn, Renewal};
 use crate::stored::read;
 use argon2::bound::{Bound, BoundError};
@@ -42,9 +42,9 @@ pub struct Policy<'key> {
 }
 
 impl<'key> Policy<'key> {
-    ghost use Rattle.std.specs.Prelude.{◌≡◌, ◌≢◌, ◌⊎◌, ◌↔◌, ◌≤◌, ◌<◌, [], Some, None, Ok, IsTrue, IfSome, IfOk, IfErr, MatchOption, MatchResult, option_copied};
+    ghost use Rattle.std.specs.Prelude.{◌≡◌, ◌≢◌, ◌⊎◌, ◌≤◌, ◌<◌, [], Some, None, Ok, IfSome, IfOk, IfErr, MatchOption, MatchResult, option_copied};
     ghost use Rattle.argon2_base.specs.declared.error.Error.TheVariants.{SecretTooLong};
-    ghost use Rattle.argon2_policy.specs.Policy.{AdmitsStored, AreNoWeaker, AsksFor, AsksWithin, HashesRefused, IsChangeRefusal, Denies, IsHashingRefusal, IsAged, IsDenial, IsFound, IsFresh, IsNewPolicy, IsNoWeaker, LogsIn, Phc};
+    ghost use Rattle.argon2_policy.specs.Policy.{AdmitsStored, AsksFor, AsksWithin, HashesRefused, IsChangeRefusal, Denies, IsHashingRefusal, IsAged, IsDenial, IsFound, IsFresh, IsNewPolicy, IsNoWeaker, LogsIn, Phc};
     ghost use Rattle.argon2_policy.specs.Renewals.{accepted_by, accepted_of, fresh_of, renewal_of};
     ghost use Rattle.argon2_policy.specs.Policy.{OutOfMemory, Refused, SaysValue, after_salt, drawn_salt, hashes_of_wrong, phc_of, policy_value, settings_or_target, settings_value, shown_settings, stored_of, stream_after, text_of, value_after};
 
@@ -298,30 +298,11 @@ impl<'key> Policy<'key> {
         ensures { (v : Phc) → shown_settings v ≡ Ok (settings_value shown.now)
             → IsAged (policy_value self.now).target v result }
     {
-        if self.allows(shown) {
+        if shown.is_no_weaker_than(&settings_of(&self.target)) {
             Age::Recent
         } else {
             Age::Outdated
         }
-    }
-
-    // Whether settings differ from the target's at most by higher costs and a longer hash.
-    fn allows(&self, shown: &Settings) -> bool
-        ensures { IsTrue result ↔ AreNoWeaker (policy_value self.now).target.settings
-            (settings_value shown.now) }
-    {
-        let target = &self.target;
-        if shown.algorithm != target.algorithm() || shown.version != target.version() {
-            return false;
-        }
-        let (shown, wanted) = (&shown.params, target.params());
-        if shown.m_cost() < wanted.m_cost() || shown.t_cost() < wanted.t_cost() {
-            return false;
-        }
-        if shown.p_cost() < wanted.p_cost() || shown.hash_len() < wanted.hash_len() {
-            return false;
-        }
-        shown.keyid() == wanted.keyid() && shown.data() == wanted.data()
     }
 }
 

@@ -24,7 +24,28 @@ pub struct Settings {
 }
 
 impl Settings {
+    ghost use Rattle.std.specs.Prelude.{◌↔◌, IsTrue};
+    ghost use Rattle.argon2.specs.Policy.{AreNoWeaker};
     ghost use Rattle.argon2.specs.StoredTexts.{settings_value, shown_settings};
+
+    /// Whether a hash of these settings is no weaker than a hash of `wanted`. Then both have the same
+    /// algorithm, version, key identifier and associated data, no cost is lower than wanted, and the hash
+    /// is not shorter. Settings without an output length are of hashes of 32 bytes.
+    pub fn is_no_weaker_than(&self, wanted: &Settings) -> bool
+        ensures { IsTrue result ↔ AreNoWeaker (settings_value wanted.now) (settings_value self.now) }
+    {
+        if self.algorithm != wanted.algorithm || self.version != wanted.version {
+            return false;
+        }
+        let (own, wanted) = (&self.params, &wanted.params);
+        if own.m_cost() < wanted.m_cost() || own.t_cost() < wanted.t_cost() {
+            return false;
+        }
+        if own.p_cost() < wanted.p_cost() || own.hash_len() < wanted.hash_len() {
+            return false;
+        }
+        own.keyid() == wanted.keyid() && own.data() == wanted.data()
+    }
 
     // The settings of a PHC text, given its parameters.
     #[tactic(auto, using(crate::proofs::params_lemmas::Named::not_found))]
