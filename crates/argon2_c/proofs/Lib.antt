@@ -4,4 +4,6 @@ mod Lengths
 mod Numbers
 mod PhcAccepted
 mod PhcAdmitted
+mod PhcLogin
+mod PhcVerified
 mod Utf8

@@ -1,6 +1,8 @@
 pub mod Decoding
+pub mod Logins
 pub mod PhcAdmission
 pub mod PhcFaults
+pub mod PhcLogin
 pub mod PhcRenewal
 pub mod PhcRequests
 pub mod PhcShown

@@ -1,5 +1,5 @@
 -- What a C caller asks for in a call of argon2_phc.h, and why it is refused.
-use Rattle.std.specs.Prelude.{ℕ, ◌==◌, ◌&&◌, not, nat_lt, Bool, ℤ, Option, Some, None, if◌then◌else◌, List, [], ◌∷◌, length, option_map, unwrap_or}
+use Rattle.std.specs.Prelude.{◌≡◌, ◌⊎◌, ℕ, ◌≤◌, ◌==◌, ◌&&◌, not, nat_lt, Bool, ℤ, Option, Some, None, if◌then◌else◌, List, [], ◌∷◌, length, option_map, unwrap_or}
 use Rattle.std.specs.Option.{option_or}
 use Rattle.argon2_base.specs.PhcText.{Phc, phc_text}
 use Rattle.argon2_base.specs.declared.error.Error.{Error}
@@ -40,6 +40,15 @@ abbrev pub params_refusal : Request → Option ℕ → ℕ → ℕ → ℕ → �
 params_refusal r output most_associated keyid associated secret =
     option_or (option_map error_code (first_fault r.m_cost r.t_cost r.lanes output))
     (first_of (own_faults r most_associated keyid associated secret))
+
+-- parameters that are not refused
+pub record AreTaken (r : Request) (output : Option ℕ) (most_associated keyid associated secret : ℕ) : Type 0 where
+  pub costs : first_fault r.m_cost r.t_cost r.lanes output ≡ None
+  pub keyid_most : keyid ≤ 8
+  pub associated_most : associated ≤ most_associated
+  pub is_variant : r.algorithm ≤ 2
+  pub is_version : (r.version ≡ 16) ⊎ (r.version ≡ 19)
+  pub secret_most : secret ≤ max_len
 
 -- the faults of a text, by the lengths of its salt and its hash and the length of the password
 abbrev pub making_faults : ℕ → ℕ → ℕ → List (Bool × ℤ)

@@ -65,6 +65,10 @@ pub const NO_ALGORITHM: i32 = -70;
 pub const NO_VERSION: i32 = -71;
 /// A text and a zero byte don't fit into the room for them.
 pub const ROOM_TOO_SHORT: i32 = -72;
+/// The parameters of new hashes ask for more than the bound, or for a hash that is shorter or longer than it says.
+pub const WANTED_OUT_OF_BOUND: i32 = -75;
+/// New hashes are made under another secret than the one that stored hashes are verified under.
+pub const SECRETS_DIFFER: i32 = -76;
 /// A text is outside the grammar.
 pub const TEXT_INVALID: i32 = -80;
 /// The memory cost of a text can't be read, or is not valid.
@@ -86,11 +90,13 @@ pub const ABOVE_BOUND: i32 = -88;
 /// The hash of a text is shorter or longer than the bound says.
 pub const OUTPUT_OUT_OF_BOUND: i32 = -89;
 
-// What `argon2_c_phc_renewal` answers.
+// What `argon2_c_phc_renewal` and `argon2_c_phc_is_due` answer.
 
-/// A text is as wanted.
+/// A text is as wanted, or stays.
 pub const CURRENT: i32 = 0;
 /// A text is not as wanted, and not below.
 pub const OTHER: i32 = 1;
 /// Something of a text is below what is wanted.
 pub const BELOW: i32 = 2;
+/// A text is to be replaced.
+pub const DUE: i32 = 1;

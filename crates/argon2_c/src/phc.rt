@@ -4,6 +4,7 @@
 pub mod admit;
 pub mod encode;
 mod fault;
+pub mod login;
 mod reading;
 pub mod refusals;
 pub mod renewal;

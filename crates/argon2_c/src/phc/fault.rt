@@ -52,7 +52,8 @@ pub fn bound_code(error: &BoundError) -> i32
 
 /// The code of a fault of costs or of an output's length.
 pub fn error_code(error: &Error) -> i32
-    ensures { result ≡ error_code error.now }
+    ensures value { result ≡ error_code error.now }
+    ensures refuses { result ≢ OK }
 {
     match error {
         Error::ThreadsTooFew => LANES_TOO_FEW,

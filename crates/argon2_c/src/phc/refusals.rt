@@ -1,9 +1,9 @@
 //! Why the parameters of a C caller are refused, and the lengths for a text or for a raw tag.
 
-ghost use Rattle.std.specs.Prelude.{◌≡◌, unwrap_or};
+ghost use Rattle.std.specs.Prelude.{◌≡◌, ◌≢◌, ◌≤◌, IfSome, IsNone, unwrap_or};
 ghost use Rattle.std.specs.Option.{option_or};
 ghost use Rattle.argon2.specs.Refusals.{first_of};
-ghost use Rattle.argon2_c.specs.PhcRequests.{length_set, making_faults, params_refusal, tag_faults};
+ghost use Rattle.argon2_c.specs.PhcRequests.{AreTaken, length_set, making_faults, params_refusal, tag_faults};
 
 use super::fault::error_code;
 use crate::code::*;
@@ -31,8 +31,8 @@ pub struct PhcLengths {
     pub has_output: bool,
 }
 
-// The length of outputs, if it is set.
-fn output_of(lengths: &PhcLengths) -> Option<usize>
+/// The length of outputs, if it is set.
+pub fn output_of(lengths: &PhcLengths) -> Option<usize>
     ensures { result ≡ length_set lengths.now.has_output lengths.now.output }
 {
     if lengths.has_output {
@@ -51,7 +51,9 @@ pub fn params_refusal(
     associated: usize,
     secret: usize,
 ) -> Option<i32>
-    ensures { result ≡ params_refusal request.now output most_associated keyid associated secret }
+    ensures first { result ≡ params_refusal request.now output most_associated keyid associated secret }
+    ensures code { IfSome result (λ code. code ≢ OK) }
+    ensures none { IsNone result → AreTaken request.now output most_associated keyid associated secret }
 {
     if let Err(error) = Params::new(request.m_cost, request.t_cost, request.lanes, output) {
         Some(error_code(&error))
@@ -111,7 +113,9 @@ pub extern "C" fn argon2_c_text_refusal(
 
 /// Why no text is made, by the lengths of its salt and its hash and the length of the password.
 pub fn text_refusal(salt: usize, hash: usize, pwd: usize) -> Option<i32>
-    ensures { result ≡ first_of (making_faults salt hash pwd) }
+    ensures first { result ≡ first_of (making_faults salt hash pwd) }
+    ensures code { IfSome result (λ code. code ≢ OK) }
+    ensures none { IsNone result → hash ≤ 64 }
 {
     if salt < Salt::MIN_LENGTH {
         Some(SALT_TOO_SHORT)
