@@ -103,9 +103,30 @@ static bool is_drawn(uint8_t *at, size_t n) {
     return got == (ssize_t)n;
 }
 
+/* Returns ARGON2P_OK if the stored hash of a call with a salt of this length fits into `room` bytes. */
+static int room_refusal(const struct call *call, size_t salt_len, size_t room) {
+    static const uint8_t zeros[ARGON2P_MAX_OUTPUT];
+    uint8_t made[ARGON2P_TEXT_SIZE];
+    const int answer = encode(call, zeros, salt_len, zeros, hash_length(&call->params), made);
+    if (answer != ARGON2P_OK) return answer;
+    return strlen((char *)made) < room ? ARGON2P_OK : ARGON2P_ROOM_TOO_SHORT;
+}
+
+/* Makes the tag of a call, and writes the stored hash with a zero byte to `text`, which has room for it. */
+static int write_hash(struct call *call, char *text) {
+    uint8_t tag[ARGON2P_MAX_OUTPUT] = {0}, made[ARGON2P_TEXT_SIZE];
+    int answer;
+    call->context.out = tag, call->context.outlen = (uint32_t)hash_length(&call->params);
+    answer = hash_into(&call->context, call->params.algorithm, tag);
+    if (answer == ARGON2P_OK) answer = encode(call, call->context.salt, call->context.saltlen, tag, call->context.outlen, made);
+    if (answer == ARGON2P_OK) memcpy(text, made, strlen((char *)made) + 1);
+    wipe(tag, sizeof tag), wipe(made, sizeof made);
+    return answer;
+}
+
 int argon2p_hash(const argon2p_params *params, const void *pwd, size_t pwd_len, const void *salt, size_t salt_len, char *text,
     size_t room) {
-    uint8_t drawn[ARGON2P_DRAWN_SALT] = {0}, tag[ARGON2P_MAX_OUTPUT] = {0}, made[ARGON2P_TEXT_SIZE];
+    uint8_t drawn[ARGON2P_DRAWN_SALT] = {0};
     const bool draws = !salt && !salt_len;
     struct call call;
     int answer = read_params(&call.params, params);
@@ -116,16 +137,11 @@ int argon2p_hash(const argon2p_params *params, const void *pwd, size_t pwd_len, 
     if (answer != ARGON2P_OK) return answer;
     if (!text) return ARGON2P_TEXT_NULL;
     if (draws) salt = drawn, salt_len = sizeof drawn;
-    begin_call(&call, pwd, pwd_len, some(salt), salt_len, tag, hash_length(&call.params));
+    begin_call(&call, pwd, pwd_len, some(salt), salt_len, nothing, 0);
     answer = argon2_c_text_refusal(&call.request, &call.lengths, salt_len, hash_length(&call.params), pwd_len);
-    if (answer != ARGON2P_OK) return answer;
-    answer = encode(&call, salt, salt_len, tag, call.context.outlen, made); /* of a hash of zeros: it has the length */
-    if (answer == ARGON2P_OK && strlen((char *)made) >= room) answer = ARGON2P_ROOM_TOO_SHORT;
+    if (answer == ARGON2P_OK) answer = room_refusal(&call, salt_len, room);
     if (answer == ARGON2P_OK && draws && !is_drawn(drawn, sizeof drawn)) answer = ARGON2P_NO_RANDOM;
-    if (answer == ARGON2P_OK) answer = hash_into(&call.context, call.params.algorithm, tag);
-    if (answer == ARGON2P_OK) answer = encode(&call, salt, salt_len, tag, call.context.outlen, made);
-    if (answer == ARGON2P_OK) memcpy(text, made, strlen((char *)made) + 1);
-    wipe(tag, sizeof tag), wipe(made, sizeof made);
+    if (answer == ARGON2P_OK) answer = write_hash(&call, text);
     wipe_stack();
     return answer;
 }
@@ -179,20 +195,43 @@ int argon2p_parse(const char *text, size_t text_len, argon2p_shown *shown) {
     return answer;
 }
 
-int argon2p_needs_rehash(const argon2p_params *wanted, const char *text, size_t text_len, int *answer) {
-    struct call call;
-    int code = read_params(&call.params, wanted);
+/* Reads the wanted parameters of argon2p_needs_rehash and of argon2p_is_weaker, and returns the code of the first null pointer. */
+static int begin_comparing(struct call *call, const argon2p_params *wanted, const char *text, size_t text_len, const int *answer) {
+    int code = read_params(&call->params, wanted);
     if (code != ARGON2P_OK) return code;
-    call.params.secret = NULL, call.params.secret_len = 0;
-    code = params_null(&call.params);
+    call->params.secret = NULL, call->params.secret_len = 0;
+    code = params_null(&call->params);
     if (code != ARGON2P_OK) return code;
     if (lacks(text, text_len)) return ARGON2P_TEXT_NULL;
     if (!answer) return ARGON2P_OUTPUT_NULL;
-    begin_call(&call, NULL, 0, NULL, 0, nothing, 0);
-    code = argon2_c_params_refusal(&call.request, &call.lengths);
+    begin_call(call, NULL, 0, NULL, 0, nothing, 0);
+    return argon2_c_params_refusal(&call->request, &call->lengths);
+}
+
+int argon2p_needs_rehash(const argon2p_params *wanted, const char *text, size_t text_len, int *answer) {
+    struct call call;
+    int code = begin_comparing(&call, wanted, text, text_len, answer);
     if (code != ARGON2P_OK) return code;
     code = argon2_c_phc_renewal(&call.request, hash_length(&call.params), some(call.params.keyid), call.params.keyid_len,
         some(call.params.data), call.params.data_len, some(text), text_len);
+    wipe_stack();
+    if (code < 0) return code;
+    *answer = code;
+    return ARGON2P_OK;
+}
+
+/* Returns 1 if a new hash is due, 0 if it is not, or the code of what is wrong with the stored hash. */
+static int is_due(const struct call *call, bool by_old_secret, const char *text, size_t text_len) {
+    const argon2p_params *p = &call->params;
+    return argon2_c_phc_is_due(&call->request, hash_length(p), some(p->keyid), p->keyid_len, some(p->data), p->data_len,
+        by_old_secret, some(text), text_len);
+}
+
+int argon2p_is_weaker(const argon2p_params *wanted, const char *text, size_t text_len, int *answer) {
+    struct call call;
+    int code = begin_comparing(&call, wanted, text, text_len, answer);
+    if (code != ARGON2P_OK) return code;
+    code = is_due(&call, false, text, text_len);
     wipe_stack();
     if (code < 0) return code;
     *answer = code;
@@ -232,25 +271,76 @@ static int verify_admitted(const argon2p_verifier *own, const struct phc_shown *
     return answer;
 }
 
-/* By the law `verifying_within` of argon2_c, all three calls of the crate return 0 if and only if the text is within the bound,
- * accepts the password under the secret of the calls, and neither secret is too long. */
+/* Returns the code of the first null pointer among the inputs of a call that verifies, or ARGON2P_OK. */
+static int verifier_null(const argon2p_verifier *own, const char *text, size_t text_len, const void *pwd, size_t pwd_len) {
+    if (lacks(text, text_len)) return ARGON2P_TEXT_NULL;
+    if (lacks(pwd, pwd_len)) return ARGON2P_PASSWORD_NULL;
+    return lacks(own->secret, own->secret_len) || lacks(own->old_secret, own->old_secret_len) ? ARGON2P_SECRET_NULL : ARGON2P_OK;
+}
+
+static struct phc_bound bound_of(const argon2p_verifier *own) {
+    return (struct phc_bound){own->m_cost, own->t_cost, own->p_cost, own->min_output, own->max_output};
+}
+
+/* Verifies by a verifier that was read. By the law `verifying_within` of argon2_c, all three calls of the crate return 0 if and only
+ * if the text is within the bound, accepts the password under the secret of the calls, and neither secret is too long. */
+static int verify(const argon2p_verifier *own, const char *text, size_t text_len, const void *pwd, size_t pwd_len, bool *is_old) {
+    const struct phc_bound bound = bound_of(own);
+    struct phc_shown shown = {0};
+    int answer = argon2_c_phc_admit(&bound, some(text), text_len, pwd_len, own->secret_len, own->old_secret_len, &shown);
+    if (answer == ARGON2P_OK) answer = verify_admitted(own, &shown, pwd, pwd_len, is_old);
+    wipe(&shown, sizeof shown);
+    return answer;
+}
+
 int argon2p_verify(const argon2p_verifier *verifier, const char *text, size_t text_len, const void *pwd, size_t pwd_len,
     int *by_old_secret) {
     argon2p_verifier own;
-    struct phc_bound bound;
-    struct phc_shown shown = {0};
     bool is_old = false;
     int answer = read_verifier(&own, verifier);
+    if (answer == ARGON2P_OK) answer = verifier_null(&own, text, text_len, pwd, pwd_len);
     if (answer != ARGON2P_OK) return answer;
-    if (lacks(text, text_len)) return ARGON2P_TEXT_NULL;
-    if (lacks(pwd, pwd_len)) return ARGON2P_PASSWORD_NULL;
-    if (lacks(own.secret, own.secret_len) || lacks(own.old_secret, own.old_secret_len)) return ARGON2P_SECRET_NULL;
-    bound = (struct phc_bound){own.m_cost, own.t_cost, own.p_cost, own.min_output, own.max_output};
-    answer = argon2_c_phc_admit(&bound, some(text), text_len, pwd_len, own.secret_len, own.old_secret_len, &shown);
-    if (answer == ARGON2P_OK) answer = verify_admitted(&own, &shown, pwd, pwd_len, &is_old);
-    wipe(&shown, sizeof shown);
+    answer = verify(&own, text, text_len, pwd, pwd_len, &is_old);
     wipe_stack();
     if (answer == ARGON2P_OK && by_old_secret) *by_old_secret = is_old;
+    return answer;
+}
+
+/* ---- logging in */
+
+/* Writes a new hash of the password to `fresh`, and returns the outcome of the login. */
+static int renew(struct call *wanted, char *fresh) {
+    uint8_t drawn[ARGON2P_DRAWN_SALT] = {0};
+    if (!is_drawn(drawn, sizeof drawn)) return ARGON2P_KEPT;
+    wanted->context.salt = drawn, wanted->context.saltlen = sizeof drawn;
+    return write_hash(wanted, fresh) == ARGON2P_OK ? ARGON2P_RENEWED : ARGON2P_KEPT;
+}
+
+/* The crate decides by argon2_c_phc_wanted_refusal, by the calls of `verify`, and by argon2_c_phc_is_due. Its law `logging_in`
+ * states which login the outcome is. */
+int argon2p_log_in(const argon2p_params *wanted, const argon2p_verifier *verifier, const char *text, size_t text_len,
+    const void *pwd, size_t pwd_len, char *fresh, size_t room, int *outcome) {
+    argon2p_verifier own;
+    struct phc_bound bound;
+    struct call call;
+    bool is_old = false;
+    int answer = read_params(&call.params, wanted), due;
+    if (answer == ARGON2P_OK) answer = read_verifier(&own, verifier);
+    if (answer == ARGON2P_OK) answer = verifier_null(&own, text, text_len, pwd, pwd_len);
+    if (answer == ARGON2P_OK) answer = params_null(&call.params);
+    if (answer == ARGON2P_OK && (!fresh || !outcome)) answer = ARGON2P_OUTPUT_NULL;
+    if (answer != ARGON2P_OK) return answer;
+    bound = bound_of(&own);
+    begin_call(&call, pwd, pwd_len, NULL, 0, nothing, 0);
+    answer = argon2_c_phc_wanted_refusal(&call.request, &call.lengths, &bound, some(call.params.secret), call.params.secret_len,
+        some(own.secret), own.secret_len);
+    if (answer == ARGON2P_OK) answer = room_refusal(&call, ARGON2P_DRAWN_SALT, room);
+    if (answer == ARGON2P_OK) answer = verify(&own, text, text_len, pwd, pwd_len, &is_old);
+    if (answer == ARGON2P_OK) {
+        due = is_due(&call, is_old, text, text_len);
+        *outcome = due ? renew(&call, fresh) : ARGON2P_CURRENT;
+    }
+    wipe_stack();
     return answer;
 }
 
@@ -353,6 +443,8 @@ const char *argon2p_error_message(int code) {
     case ARGON2P_ROOM_TOO_SHORT: return "The text does not fit into its room";
     case ARGON2P_BLOCKS_TOO_FEW: return "Too few blocks were lent";
     case ARGON2P_NO_RANDOM: return "The system gives no random bytes";
+    case ARGON2P_WANTED_OUT_OF_BOUND: return "New hashes are outside the verifier's bound";
+    case ARGON2P_SECRETS_DIFFER: return "New hashes have another secret than the verifier";
     case ARGON2P_TEXT_INVALID: return "The text is outside the grammar";
     case ARGON2P_TEXT_MEMORY: return "The text's memory cost is not valid";
     case ARGON2P_TEXT_PASSES: return "The text's number of passes is not valid";

@@ -86,6 +86,10 @@ int32_t argon2_c_phc_encode(const struct request *, bytes keyid, size_t, bytes a
 int32_t argon2_c_phc_show(bytes text, size_t, struct phc_shown *);
 int32_t argon2_c_phc_renewal(const struct request *, size_t output, bytes keyid, size_t, bytes associated, size_t,
     bytes text, size_t);
+int32_t argon2_c_phc_wanted_refusal(const struct request *, const struct phc_lengths *, const struct phc_bound *,
+    bytes secret, size_t, bytes verifying, size_t);
+int32_t argon2_c_phc_is_due(const struct request *, size_t output, bytes keyid, size_t, bytes associated, size_t,
+    bool by_old_secret, bytes text, size_t);
 int32_t argon2_c_phc_admit(const struct phc_bound *, bytes text, size_t, size_t pwd, size_t secret, size_t old_secret,
     struct phc_shown *);
 int32_t argon2_c_fill(const struct request *, bytes pwd, size_t, bytes salt, size_t, bytes secret, size_t,

@@ -1,6 +1,6 @@
 /*
  * Tests of argon2_phc.h, which tests/c/run runs: texts with a secret, old secrets, the bound, each code and the order of codes,
- * what a text shows, renewal, salts that are drawn, lent blocks, structures of other sizes, refused memory, wiping, threads.
+ * what a text shows, renewal, logins, salts that are drawn, lent blocks, structures of other sizes, refused memory, wiping, threads.
  * Another implementation computed the expected texts, tags and blocks. Prints what fails, and last 'N passed, M failed'.
  */
 #define _GNU_SOURCE
@@ -246,7 +246,7 @@ static void messages(void) {
         known++;
         for (int b = 0; b > a; b--) check(strcmp(argon2p_error_message(a), argon2p_error_message(b)), "two codes", a);
     }
-    check(known == 40, "codes with messages", known);
+    check(known == 42, "codes with messages", known);
 }
 
 /* ---- texts that are refused, and the bound */
@@ -380,6 +380,153 @@ static void renewals(void) {
     check(argon2p_needs_rehash(&p, PLAIN, strlen(PLAIN), NULL) == ARGON2P_OUTPUT_NULL, "no answer", 0);
 }
 
+/* ---- logins */
+
+static int weaker(argon2p_params p, const char *text) {
+    int answer = 7;
+    const int code = argon2p_is_weaker(&p, text, strlen(text), &answer);
+    check((code == ARGON2P_OK) == (answer != 7), "an answer for a code of 0", code);
+    return code == ARGON2P_OK ? answer : code;
+}
+
+/* Whether TEXT is weaker, if one member of what is wanted changes. */
+static const struct fault wanted[] = {
+    IN_PARAMS(m_cost, 63, 0), IN_PARAMS(m_cost, 65, 1), IN_PARAMS(t_cost, 1, 0), IN_PARAMS(t_cost, 3, 1),
+    IN_PARAMS(p_cost, 1, 0), IN_PARAMS(p_cost, 3, 1), IN_PARAMS(algorithm, ARGON2P_D, 1), IN_PARAMS(algorithm, ARGON2P_I, 1),
+    IN_PARAMS(version, ARGON2P_VERSION_10, 1), IN_PARAMS(keyid_len, 0, 1), IN_PARAMS(keyid_len, 2, 1),
+    IN_PARAMS(data_len, 0, 1), IN_PARAMS(data_len, 3, 1), IN_PARAMS(secret_len, 0, 0), IN_PARAMS(threads, 1, 0),
+    IN_PARAMS(has_output_len, 0, 0),
+};
+
+static void weaker_texts(void) {
+    argon2p_params p = params();
+    check(weaker(p, TEXT) == 0 && weaker(p, OLD) == 0, "a text as wanted, whatever the secret is", 0);
+    for (size_t i = 0; i < sizeof wanted / sizeof *wanted; i++) {
+        p = params(), set(&p, &wanted[i]);
+        check(weaker(p, TEXT) == wanted[i].code, "whether a text is weaker", i);
+    }
+    p = params(), p.has_output_len = 1;
+    for (p.output_len = 31; p.output_len <= 33; p.output_len++)
+        check(weaker(p, TEXT) == (p.output_len > 32), "a length that is set", p.output_len);
+    p = params(), p.keyid_len = p.data_len = 0;
+    check(weaker(p, COSTS) == 0 && weaker(p, PLAIN) == 0 && weaker(p, FIRST) == 1, "other texts", 0);
+    check(argon2p_is_weaker(&p, NULL, 1, NULL) == ARGON2P_TEXT_NULL, "no text", 0);
+    check(argon2p_is_weaker(&p, PLAIN, strlen(PLAIN), NULL) == ARGON2P_OUTPUT_NULL, "no answer", 0);
+}
+
+/* Returns the outcome of a login, or the code of an error. Then `fresh` is a new text only if the outcome is ARGON2P_RENEWED. */
+static int log_in(argon2p_params p, argon2p_verifier v, const char *text, const char *pwd, char *fresh) {
+    char same[ARGON2P_TEXT_SIZE];
+    int outcome = 7, code;
+    memset(fresh, 7, sizeof same), memset(same, 7, sizeof same);
+    code = argon2p_log_in(&p, &v, text, strlen(text), pwd, strlen(pwd), fresh, sizeof same, &outcome);
+    check((code == ARGON2P_OK) == (outcome != 7), "an outcome for a code of 0", code);
+    check((code == ARGON2P_OK && outcome == ARGON2P_RENEWED) == !!memcmp(fresh, same, sizeof same), "a new text", code);
+    return code == ARGON2P_OK ? outcome : code;
+}
+
+/* Returns whether a login renews a text: the new text accepts the password, is not weaker, and has the next salt that is drawn. */
+static bool renews(argon2p_params p, argon2p_verifier v, const char *text) {
+    argon2p_shown shown = ARGON2P_SHOWN_INIT;
+    char fresh[ARGON2P_TEXT_SIZE];
+    const uint8_t first = drawn;
+    if (log_in(p, v, text, "password", fresh) != ARGON2P_RENEWED) return false;
+    v.has_old_secret = 0, v.old_secret = NULL, v.old_secret_len = 0;
+    return verify(v, fresh, "password", NULL) == ARGON2P_OK && weaker(p, fresh) == 0
+        && argon2p_parse(fresh, strlen(fresh), &shown) == ARGON2P_OK && shown.salt_len == 16 && shown.salt[0] == first;
+}
+
+static void logins(void) {
+    argon2p_params p = params();
+    argon2p_verifier v = verifier();
+    char fresh[ARGON2P_TEXT_SIZE];
+    check(log_in(p, v, TEXT, "password", fresh) == ARGON2P_CURRENT, "a login that stays", 0);
+    check(log_in(p, v, TEXT, "passwore", fresh) == ARGON2P_MISMATCH, "another password", 0);
+    check(log_in(p, v, OLD, "password", fresh) == ARGON2P_MISMATCH, "another secret", 0);
+    for (size_t i = 0; i < sizeof wanted / sizeof *wanted; i++) {
+        p = params(), v = verifier(), set(&p, &wanted[i]), v.secret_len = p.secret_len;
+        if (!p.secret_len) continue;
+        check(wanted[i].code ? renews(p, v, TEXT) : log_in(p, v, TEXT, "password", fresh) == ARGON2P_CURRENT, "renewal", i);
+    }
+    p = params(), v = verifier(), v.has_old_secret = 1, v.old_secret = "old", v.old_secret_len = 3;
+    check(renews(p, v, OLD), "an old secret", 0);
+    check(log_in(p, v, TEXT, "password", fresh) == ARGON2P_CURRENT, "the secret before the old one", 0);
+    check(log_in(p, v, OLD, "passwore", fresh) == ARGON2P_MISMATCH, "an old secret and another password", 0);
+    p.m_cost = 65, p.t_cost = 1, check(renews(p, v, OLD), "an old secret, and other costs", 0);
+    interrupted = 3, errno = 4242, check(renews(p, v, TEXT) && errno == 4242, "random bytes after a signal", 0);
+    is_drained = true;
+    check(log_in(p, v, TEXT, "password", fresh) == ARGON2P_KEPT, "no random bytes", 0);
+    check(log_in(p, v, OLD, "password", fresh) == ARGON2P_KEPT, "no random bytes, an old secret", 0);
+    check(log_in(p, v, TEXT, "passwore", fresh) == ARGON2P_MISMATCH, "no random bytes, another password", 0);
+    check(log_in(params(), v, TEXT, "password", fresh) == ARGON2P_CURRENT, "no random bytes that are needed", 0);
+    is_drained = false;
+    p = params(), v = verifier(), p.data_len = p.keyid_len = p.secret_len = v.secret_len = 0, p.version = ARGON2P_VERSION_10;
+    check(renews(p, v, PLAIN), "no secret, and an older version", 0);
+    p = params(), p.secret_len = 0, v.secret = NULL, p.m_cost = 8, p.t_cost = p.p_cost = 1, v.min_output = 4, p.output_len = 4;
+    p.algorithm = ARGON2P_D, p.has_output_len = 1, p.data_len = p.keyid_len = 0;
+    check(log_in(p, v, SHORT, "", fresh) == ARGON2P_MISMATCH, "an empty password, and another secret", 0);
+    p.secret = v.secret = "secret", p.secret_len = v.secret_len = 6;
+    check(log_in(p, v, SHORT, "", fresh) == ARGON2P_CURRENT, "an empty password", 0);
+}
+
+static int login_code(const argon2p_params *p, const argon2p_verifier *v, const char *text, size_t room) {
+    static char fresh[ARGON2P_TEXT_SIZE];
+    int outcome = 7;
+    const int code = argon2p_log_in(p, v, text, text ? strlen(text) : 9, "password", 8, fresh, room, &outcome);
+    check(code == ARGON2P_OK || outcome == 7, "no outcome of an error", code);
+    return code;
+}
+
+/* The codes of a login in their order. Each call has the faults of all later ones, too. */
+static void login_codes(void) {
+    argon2p_params p = params();
+    argon2p_verifier v = verifier();
+    const size_t big = (size_t)UINT32_MAX + 1, room = strlen(TEXT) + 11; /* the new salt has eight bytes more */
+    char fresh[ARGON2P_TEXT_SIZE];
+    int outcome;
+    check(login_code(NULL, &v, TEXT, 999) == ARGON2P_STRUCT && login_code(&p, NULL, TEXT, 999) == ARGON2P_STRUCT, "no structure", 0);
+    v.reserved = 1, check(login_code(&p, &v, NULL, 0) == ARGON2P_STRUCT, "a reserved member", 0), v.reserved = 0;
+    p.reserved = 1, check(login_code(&p, &v, NULL, 0) == ARGON2P_STRUCT, "a reserved member", 1), p.reserved = 0;
+    check(argon2p_log_in(&p, &v, NULL, 1, NULL, 1, NULL, 0, NULL) == ARGON2P_TEXT_NULL, "no text", 0);
+    check(argon2p_log_in(&p, &v, "", 0, NULL, 1, NULL, 0, NULL) == ARGON2P_PASSWORD_NULL, "no password", 0);
+    v.secret = NULL, check(argon2p_log_in(&p, &v, "", 0, "", 0, NULL, 0, NULL) == ARGON2P_SECRET_NULL, "no secret", 0);
+    v = verifier(), v.has_old_secret = 1, v.old_secret_len = 1;
+    check(argon2p_log_in(&p, &v, "", 0, "", 0, NULL, 0, NULL) == ARGON2P_SECRET_NULL, "no secret", 1), v = verifier();
+    p.secret = p.data = p.keyid = NULL;
+    check(argon2p_log_in(&p, &v, "", 0, "", 0, NULL, 0, NULL) == ARGON2P_SECRET_NULL, "no secret", 2), p.secret = "secret";
+    check(argon2p_log_in(&p, &v, "", 0, "", 0, NULL, 0, NULL) == ARGON2P_DATA_NULL, "no data", 0), p.data = "data";
+    check(argon2p_log_in(&p, &v, "", 0, "", 0, NULL, 0, NULL) == ARGON2P_KEYID_NULL, "no key identifier", 0), p.keyid = "key";
+    check(argon2p_log_in(&p, &v, "", 0, "", 0, NULL, 0, &outcome) == ARGON2P_OUTPUT_NULL, "no room", 0);
+    check(argon2p_log_in(&p, &v, "", 0, "", 0, fresh, 0, NULL) == ARGON2P_OUTPUT_NULL, "no outcome", 0);
+    /* (from here on the secrets differ, the room is too short, and the text is outside the grammar) */
+    p.secret_len = 5, p.keyid_len = 9;
+    v.m_cost = 63, check(login_code(&p, &v, "", 0) == ARGON2P_WANTED_OUT_OF_BOUND, "memory above the bound", 0), v.m_cost = 64;
+    v.t_cost = 1, check(login_code(&p, &v, "", 0) == ARGON2P_WANTED_OUT_OF_BOUND, "passes above the bound", 0), v.t_cost = 2;
+    v.p_cost = 1, check(login_code(&p, &v, "", 0) == ARGON2P_WANTED_OUT_OF_BOUND, "lanes above the bound", 0), v.p_cost = 2;
+    v.min_output = 33, check(login_code(&p, &v, "", 0) == ARGON2P_WANTED_OUT_OF_BOUND, "a short tag", 0), v.min_output = 32;
+    v.max_output = 31, check(login_code(&p, &v, "", 0) == ARGON2P_WANTED_OUT_OF_BOUND, "a long tag", 0), v.max_output = 32;
+    check(login_code(&p, &v, "", 0) == ARGON2P_SECRETS_DIFFER, "a shorter secret", 0);
+    p.secret = "sEcret", p.secret_len = 6, check(login_code(&p, &v, "", 0) == ARGON2P_SECRETS_DIFFER, "another secret", 0);
+    p.secret = NULL, p.secret_len = 0, check(login_code(&p, &v, "", 0) == ARGON2P_SECRETS_DIFFER, "no secret", 3);
+    p.secret = "secret", p.secret_len = 6, check(login_code(&p, &v, "", 0) == ARGON2P_KEYID_TOO_LONG, "a key identifier", 0);
+    v.m_cost = v.t_cost = v.p_cost = v.max_output = UINT32_MAX, v.min_output = 0;
+    for (size_t i = 0; i < sizeof faults / sizeof *faults; i++) {
+        p = params(), p.has_output_len = 1, p.output_len = 32, set(&p, &faults[i]);
+        if (faults[i].code != ARGON2P_STRUCT && p.secret_len == 6 && p.secret && p.output_len <= UINT32_MAX)
+            check(login_code(&p, &v, "", 0) == faults[i].code, "what argon2p_check refuses", i);
+    }
+    p = params(), p.has_output_len = 1, p.output_len = 65, check(login_code(&p, &v, "", 0) == ARGON2P_OUTPUT_TOO_LONG, "a tag", 0);
+    p = params(), v = verifier();
+    check(login_code(&p, &v, "", room) == ARGON2P_ROOM_TOO_SHORT && login_code(&p, &v, TEXT, room) == ARGON2P_ROOM_TOO_SHORT, "room", 0);
+    check(login_code(&p, &v, TEXT, room + 1) == ARGON2P_OK, "exactly the room", 0);
+    for (size_t i = 0; i < sizeof texts / sizeof *texts; i++)
+        check(login_code(&p, &v, texts[i].text, 327) == verify(v, texts[i].text, "password", NULL), "a refused text", i);
+    v.t_cost = 2, check(login_code(&p, &v, "$argon2id$v=19$m=64,t=3,p=2$c29tZXNhbHQ$AAAAAA", 327) == ARGON2P_ABOVE_BOUND, "costs", 0);
+    v.has_old_secret = 1, v.old_secret = "old", v.old_secret_len = big;
+    check(login_code(&p, &v, TEXT, 327) == ARGON2P_SECRET_TOO_LONG, "a long old secret", 0);
+    check(argon2p_log_in(&p, &v, TEXT, strlen(TEXT), "password", big, fresh, 327, &outcome) == ARGON2P_PASSWORD_TOO_LONG, "long", 0);
+}
+
 /* Tries structures that a later header may declare. */
 static void later_structures(void) {
     struct {
@@ -464,7 +611,7 @@ static void lent_blocks(void) {
 /* ---- each request for memory refused in turn, and wiping */
 
 #ifndef __SANITIZE_ADDRESS__ /* which has larger frames */
-enum { HASHES = 4, CALLS = 8 };
+enum { HASHES = 4, CALLS = 11 };
 
 static argon2p_shown shown_here = ARGON2P_SHOWN_INIT;
 
@@ -483,7 +630,13 @@ static int call(int which) {
     else if (which == 4) answer = verify(small, TEXT, "password", &by_old);
     else if (which == 5) answer = argon2p_parse(TEXT, strlen(TEXT), &shown_here);
     else if (which == 6) answer = argon2p_parse(TEXT "=", strlen(TEXT) + 1, &shown_here);
-    else answer = argon2p_needs_rehash(&p, TEXT, strlen(TEXT), &by_old);
+    else if (which == 7) answer = argon2p_needs_rehash(&p, TEXT, strlen(TEXT), &by_old);
+    else if (which == 8) answer = argon2p_is_weaker(&p, TEXT, strlen(TEXT), &by_old);
+    else {
+        const argon2p_verifier v = verifier();
+        p.m_cost = which == 9 ? 64 : 65;
+        answer = argon2p_log_in(&p, &v, TEXT, strlen(TEXT), "password", 8, text, sizeof text, &by_old);
+    }
     copy_registers();
     counting = false;
     return answer && (text[0] != 7 || out[0] != 7 || by_old != 7) ? 1 : answer;
@@ -539,14 +692,34 @@ static void refused_memory(void) {
 }
 #endif
 
+#ifdef REFUSES
+/* Refuses each request for memory of a login that renews. What is refused before the password is accepted is an error. Later the
+ * stored hash is kept. */
+static void refused_logins(void) {
+    argon2p_params p = params();
+    char fresh[ARGON2P_TEXT_SIZE];
+    int outcomes[3] = {0}, answer;
+    p.m_cost = 4096, p.p_cost = 4, unwiped = 0, counting = true;
+    for (refuse = 1; requests = 0, answer = log_in(p, verifier(), LARGE, "password", fresh), requests >= refuse; refuse++) {
+        check(answer == ARGON2P_OUT_OF_MEMORY || (answer >= 0 && answer <= 2), "refused memory of a login", answer);
+        if (answer >= 0) outcomes[answer]++;
+    }
+    counting = false, refuse = 0;
+    check(answer == ARGON2P_RENEWED && outcomes[ARGON2P_KEPT] > 0 && !outcomes[ARGON2P_CURRENT], "a login that keeps", answer);
+    check(unwiped < 64, "words that were not wiped", unwiped);
+    unwiped = -1;
+}
+#endif
+
 int main(void) {
     known_texts(), old_secrets(), drawn_salts(), codes(), messages(), refused_texts(), shown_texts(), renewals(), later_structures();
+    weaker_texts(), logins(), login_codes();
     lent_blocks();
 #ifndef __SANITIZE_ADDRESS__
     stacks_of_calls();
 #endif
 #ifdef REFUSES
-    changed_text(), refused_memory();
+    changed_text(), refused_memory(), refused_logins();
 #endif
     return ended();
 }
