@@ -49,8 +49,8 @@ def base64_of(value):
     return base64.b64encode(value).decode().rstrip("=")
 
 
-def read(text):
-    """What a text says. It raises `Refused` with the first reason if the text is none of Argon2 that can accept a password."""
+def parsed(text):
+    """The fields of a text, and the pairs of its list. It raises `Refused` if the text is outside the grammar."""
     fields = TEXT.fullmatch(text)
     need(fields and text.isascii(), "Grammar")
     version, salt, output = (fields[it] for it in ("version", "salt", "hash"))
@@ -61,8 +61,11 @@ def read(text):
     salt = None if salt is None else bytes_of(salt, 8, 48)
     output = None if output is None else bytes_of(output, 4, 64)
     need((fields["salt"] is None) == (salt is None) and (fields["hash"] is None) == (output is None), "Grammar")
-    need(output is not None, "Incomplete")
+    return {"algorithm": fields["algorithm"], "version": int(version or 16), "pairs": pairs, "salt": salt, "hash": output}
 
+
+def parameters(pairs):
+    """The parameters that pairs give. It raises `Refused` with the first reason why they give none."""
     values = {"keyid": b"", "data": b""}
     for name, value in pairs:
         need(name in PARAMETERS, "ParametersInvalid")
@@ -75,10 +78,26 @@ def read(text):
     need(1 <= p < 2**24, "LanesInvalid")
     need(m >= 8 * p, "MemoryInvalid")
     need(t >= 1, "PassesInvalid")
+    return {name: values[name] for name in PARAMETERS}
+
+
+def need_whole(fields):
+    need(fields["hash"] is not None, "Incomplete")
+
+
+def need_known(fields):
     need(fields["algorithm"] in ("argon2d", "argon2i", "argon2id"), "AlgorithmUnknown")
-    need(version in ("16", "19", None), "VersionUnknown")
-    shown = {"algorithm": fields["algorithm"], "version": int(version or 16), "m": m, "t": t, "p": p}
-    return shown | {"keyid": values["keyid"], "data": values["data"], "salt": salt, "hash": output}
+    need(fields["version"] in (16, 19), "VersionUnknown")
+
+
+def read(text):
+    """What a text says. It raises `Refused` with the first reason if the text is none of Argon2 that can accept a password."""
+    fields = parsed(text)
+    need_whole(fields)
+    values = parameters(fields["pairs"])
+    need_known(fields)
+    head, tail = ({it: fields[it] for it in names} for names in (("algorithm", "version"), ("salt", "hash")))
+    return head | values | tail
 
 
 VARIATIONS = ("NoVersion", "OtherOrder", "KeyidOrData", "ShortHash", "ManyLanes")
