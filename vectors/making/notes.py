@@ -25,6 +25,20 @@ NOTES = {
     "NoVersion": "The text has no version, so it is of version 16.",
     "OtherOrder": "The parameters do not stand in the order m, t, p, keyid, data.",
     "ShortHash": "The hash has fewer than 16 bytes, which is the least of libsodium.",
+    # flags of logins
+    "Algorithms": "The stored hash is of the wanted algorithm, or of another one.",
+    "Bound": "A cost of the stored hash is at the bound, or above it.",
+    "Costs": "A cost of the stored hash is the wanted cost, or is above or below it.",
+    "AssociatedData": "The stored hash shows the wanted associated data, or other data, or none.",
+    "Fault": "The stored hash has a fault.",
+    "Faults": "The stored hash has several faults. The reason is the first one in the order of a login.",
+    "KeyIdentifier": "The stored hash shows the wanted key identifier, or another one, or none.",
+    "Length": "The tag of the stored hash has the wanted length or another one, or the salt has another length than 16 bytes.",
+    "Passwords": "The password is empty or long, or it has bytes that a program may take for its end or may not read.",
+    "Secrets": "The secret accepts the password, or an old secret, or neither.",
+    "Versions": "The stored hash shows the wanted version, or another one, or none.",
+    "Wanted": "A cost of the wanted settings is at the bound, or above it.",
+    "Wrong": "The stored hash can be read, and is not that of the password.",
     # reasons why there is no tag
     "LanesTooFew": "There is no lane.",
     "LanesTooMany": "There are more than 16777215 lanes.",
@@ -42,5 +56,7 @@ NOTES = {
     "PassesInvalid": "The count of passes is no such decimal, or is 0.",
     "LanesInvalid": "The count of lanes is no such decimal, is 0, or is above 16777215.",
     "AlgorithmUnknown": "The algorithm is none of argon2d, argon2i and argon2id.",
+    "AboveBound": "The stored hash asks for more memory, passes or lanes than the bound.",
+    "WantedAboveBound": "The wanted settings ask for more memory, passes or lanes than the bound.",
     "WrongPassword": "The hash is that of another password, secret or data, or of no password.",
 }
