@@ -1,4 +1,4 @@
-"""What a login answers, by README.md and docs/PHC.md. A login is a case of argon2_login.json with bytes in place of digits."""
+"""What a login answers, by README.md and docs/PHC.md. A login is a case of argon2_login.json, with bytes in place of digits."""
 
 from texts import Refused, need, need_known, need_whole, parameters, parsed
 

@@ -2,6 +2,7 @@
 """Tries the crates on the files: calls.py PROGRAM. PROGRAM reads lines of the table of tests, and each case becomes such lines."""
 
 import base64
+import re
 import subprocess
 import sys
 
@@ -72,13 +73,80 @@ def verify_lines(number, test):
     return [f"context {context} argon2id 19 8 1 1 none secret={word(test['secret'])} = Ok", f"{call} = {answer}"]
 
 
+def context_line(name, wanted, secret):
+    """Returns the line that makes a context of wanted settings and a secret."""
+    costs = " ".join(str(wanted[it]) for it in ("m", "t", "p", "length"))
+    options = [f"{it}={word(wanted[it])}" for it in ("keyid", "data") if wanted[it]] + [f"secret={word(secret)}"]
+    return f"context {name} {wanted['algorithm']} {wanted['version']} {costs} {' '.join(options)} = Ok"
+
+
+# The salt that is drawn has 16 bytes 02.
+DRAWN = "4*02+4*00"
+RENEWED = re.compile(r"Rehashed drawn 16 (\$\S+)")
+
+
+class Logins:
+    """The logins that the lines of cases make. A login that renews the stored hash has no answer yet."""
+
+    def __init__(self, tests):
+        self.lines, self.renewing = [], []
+        for test in tests:
+            self.add_case(test)
+
+    def add_case(self, test):
+        number, bound, old = test["tcId"], " ".join(str(it) for it in test["bound"].values()), test["oldSecret"]
+        policy, old_policy = f"l{number} {bound}", f"o{number} {bound}"
+        self.lines.append(context_line(f"l{number}", test["wanted"], test["secret"]))
+        reason, text = test.get("reason"), test["text"]
+        if reason == "WantedAboveBound":
+            self.lines.append(f"Policy::new {policy} = TooExpensive")
+        elif reason == "Grammar" and (text != text.strip() or not text):
+            # (a login accepts the text of one word only)
+            self.lines.append(f"verify_password l{number} {word(test['password'])} {text_word(text)} = {ERRORS[reason]}")
+        elif reason:
+            answer = "TooExpensive drawn 0" if reason == "AboveBound" else f"Refused({ERRORS[reason]}) drawn 0"
+            self.add(test, policy, old, answer=answer)
+        else:
+            self.add(test, policy, old, is_due=test["due"])
+            if test["acceptedBy"] == "old secret":
+                self.add(test, policy, None, answer=f"Refused({ERRORS['WrongPassword']}) drawn 0")
+                # (whether the hash is weaker is what a login decides whose secret is the old one)
+                self.lines.append(context_line(f"o{number}", test["wanted"], old))
+                self.add(test, old_policy, None, is_due=test["weaker"])
+
+    def add(self, test, policy, old, is_due=False, answer="Current drawn 0 none"):
+        name = "Policy::log_in" if old is None else "Policy::with_old_secret"
+        words = [name, policy, *([] if old is None else [word(old)]), DRAWN, word(test["password"])]
+        if is_due:
+            self.renewing.append((f"{' '.join(words)} {test['text']}", f"Policy::log_in {policy} {' '.join(words[-2:])}"))
+        else:
+            self.lines.append(f"{' '.join(words)} {test['text']} = {answer}")
+
+    def all_lines(self):
+        """Returns all lines. A fresh hash has to be current at the next login, which does not get the old secret."""
+        asked = [it for it in self.lines if it.startswith("context ")] + [call for call, _ in self.renewing]
+        found = dict(it.split(" = ", 1) for it in run(asked) if " = " in it)
+        lines = [*self.lines]
+        for call, again in self.renewing:
+            fresh = RENEWED.fullmatch(found[call])
+            lines.append(f"{call} = {fresh[0] if fresh else 'Rehashed'}")
+            lines += [f"{again} {fresh[1]} = Current drawn 0 none"] if fresh else []
+        return lines
+
+
+def run(lines):
+    """Returns the lines that the program prints."""
+    given = "".join(f"{it}\n" for it in lines)
+    return subprocess.run(sys.argv[1:], input=given, stdout=subprocess.PIPE, text=True, check=True).stdout.splitlines()
+
+
 lines = [line for group, test in cases("argon2_hash") for line in hash_lines(test["tcId"], group, test)]
 lines += [f"blake2b_long {test['length']} {word(test['message'])} 128 = {test['hash']}" for _, test in cases("argon2_long_hash")]
 lines += [f"Blake2b {test['length']} {word(test['message'])} 128 = {test['digest']}" for _, test in cases("blake2b")]
 lines += [text_line(test) for _, test in cases("phc_argon2")]
 lines += [line for _, test in cases("argon2_verify") for line in verify_lines(test["tcId"], test)]
-ran = subprocess.run(sys.argv[1:], input="".join(f"{it}\n" for it in lines), stdout=subprocess.PIPE, text=True, check=True)
-*wrong, last = ran.stdout.splitlines()
+lines += Logins(test for _, test in cases("argon2_login")).all_lines()
+*wrong, last = run(lines)
 print("".join(f"{it}\n" for it in wrong), end="")
 right, _, number, _ = last.replace(",", "").split(" ")
 print(f"{right} passed, {number} failed, 0 skipped")

@@ -5,7 +5,6 @@ import os
 import sys
 
 FOLDER = os.path.join(os.path.dirname(os.path.realpath(__file__)), "..")
-NAMES = ("argon2_hash", "argon2_long_hash", "blake2b", "phc_argon2", "argon2_verify")
 
 
 def cases(name):
