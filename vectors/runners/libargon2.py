@@ -158,4 +158,5 @@ def is_renewed(login, text, fresh):
     return is_other and login.verify(fresh) == (OK, "secret") and login.is_weaker(fresh) == (OK, False)
 
 
-run({"argon2_hash": has_tag, "phc_argon2": is_read, "argon2_verify": is_accepted, "argon2_login": logs_in})
+if __name__ == "__main__":
+    run({"argon2_hash": has_tag, "phc_argon2": is_read, "argon2_verify": is_accepted, "argon2_login": logs_in})
