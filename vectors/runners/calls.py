@@ -94,14 +94,15 @@ class Logins:
             self.add_case(test)
 
     def add_case(self, test):
-        number, bound, old = test["tcId"], " ".join(str(it) for it in test["bound"].values()), test["oldSecret"]
+        number, old = test["tcId"], test["oldSecret"]
+        bound = " ".join(str(test["bound"][it]) for it in ("m", "t", "p"))
         policy, old_policy = f"l{number} {bound}", f"o{number} {bound}"
         self.lines.append(context_line(f"l{number}", test["wanted"], test["secret"]))
         reason, text = test.get("reason"), test["text"]
         if reason == "WantedAboveBound":
             self.lines.append(f"Policy::new {policy} = TooExpensive")
         elif reason == "Grammar" and (text != text.strip() or not text):
-            # (a login accepts the text of one word only)
+            # (a line writes the text of a login as one word)
             self.lines.append(f"verify_password l{number} {word(test['password'])} {text_word(text)} = {ERRORS[reason]}")
         elif reason:
             answer = "TooExpensive drawn 0" if reason == "AboveBound" else f"Refused({ERRORS[reason]}) drawn 0"
@@ -110,7 +111,7 @@ class Logins:
             self.add(test, policy, old, is_due=test["due"])
             if test["acceptedBy"] == "old secret":
                 self.add(test, policy, None, answer=f"Refused({ERRORS['WrongPassword']}) drawn 0")
-                # (whether the hash is weaker is what a login decides whose secret is the old one)
+                # (a login under the old secret renews the hash if and only if the hash is weaker)
                 self.lines.append(context_line(f"o{number}", test["wanted"], old))
                 self.add(test, old_policy, None, is_due=test["weaker"])
 
