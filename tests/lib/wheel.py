@@ -1,10 +1,12 @@
-"""The scripts that try the wheel for Python share this module."""
+"""The scripts that try the wheel for Python and the package for Go share this module."""
 
 import glob
+import json
+import os
 import sys
 import zipfile
 
-from lib.checks import ROOT, check, execute
+from lib.checks import ROOT, check, execute, need
 
 # Texts that an independent model made. OF_ABC is for the password `abc`. The others are for `pass wörd`: OF_SECRET with a secret,
 # data and a key identifier, and OF_OLD_SECRET only with another secret.
@@ -21,6 +23,32 @@ def unpack(built, top):
     with zipfile.ZipFile(wheel) as it:
         it.extractall(top)
     sys.path.insert(0, top)
+
+
+def logins():
+    """Yields each login of vectors/argon2_login.json, with the arguments of `argon2_proved.PasswordHasher` for it."""
+    from argon2_proved import Algorithm, Bound
+
+    with open(f"{ROOT}/vectors/argon2_login.json", encoding="utf-8") as it:
+        groups = json.load(it)["testGroups"]
+    for row in (row for group in groups for row in group["tests"]):
+        wanted, most = row["wanted"], row["bound"]
+        words = {name: bytes.fromhex(wanted[name]) for name in ("keyid", "data")}
+        words |= {"secret": bytes.fromhex(row["secret"]), "algorithm": Algorithm[wanted["algorithm"][6:].upper()]}
+        words |= {"old_secret": None if row["oldSecret"] is None else bytes.fromhex(row["oldSecret"])}
+        words |= {"memory_cost": wanted["m"], "time_cost": wanted["t"], "parallelism": wanted["p"]}
+        words |= {"version": wanted["version"], "hash_len": wanted["length"], "bound": Bound(*most.values(), min_hash_len=4)}
+        yield {**row, "password": bytes.fromhex(row["password"])}, words
+
+
+def without_random(folder):
+    """Returns the environment of a program whose system gives no random bytes. The library of C for that is in a folder."""
+    need("gcc", "cc")
+    library = f"{folder}/without_random.so"
+    text = "#include <errno.h>\n#include <sys/random.h>\n"
+    text += "ssize_t getrandom(void *at, size_t n, unsigned flags) { return errno = ENOSYS, -1; }\n"
+    execute(["cc", "-shared", "-fPIC", "-x", "c", "-", "-o", library], input=text, text=True, check=True)
+    return {**os.environ, "LD_PRELOAD": library, "NO_RANDOM": "yes"}
 
 
 def raised(error, call, *words):

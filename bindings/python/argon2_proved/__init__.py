@@ -18,9 +18,9 @@ its bytes in UTF-8.
 If the library refuses a call, it raises an `Error`, whose `name` is the reason. Each function lists
 the names in the order in which it looks for them. A str that has no bytes in UTF-8 is a
 `ValueError`, which does not hold the str. A number that is negative or too large for the library is
-an `OverflowError`, and a password or a number of a wrong type is a `TypeError`. Several threads may
-use an object at once. Other threads run while a hash is made, and `max_memory` bounds how much
-memory their hashes hold at once.
+an `OverflowError`, and a password or a number of a wrong type is a `TypeError`. An empty password is
+hashed and verified like any other. Several threads may use an object at once. Other threads run
+while a hash is made, and `max_memory` bounds how much memory their hashes hold at once.
 """
 
 from __future__ import annotations
@@ -35,7 +35,7 @@ from _argon2_cffi_bindings import lib as _lib
 
 from ._memory import Busy, Memory
 
-__all__ = ["Algorithm", "Bound", "Busy", "Error", "Mismatch", "Parsed", "PasswordHasher", "Renewal", "parse"]
+__all__ = ["Algorithm", "Bound", "Busy", "Error", "Memory", "Mismatch", "Parsed", "PasswordHasher", "Renewal", "parse"]
 
 _CODES = _ffi.typeof("argon2p_code").elements
 
@@ -93,16 +93,16 @@ class Bound:
     parallelism: the most lanes
     min_hash_len, max_hash_len: the fewest and the most bytes of the tag
 
-    The most expensive stored hash within the defaults needs 2 GiB, and half a minute of a processor or
-    more. It needs twice that time if an old secret is tried. A service sets what its own stored hashes
-    need.
+    The default is the bound of argon2_phc.h: 2 GiB, 64 passes, 64 lanes, and a tag of 16 to 64 bytes.
+    The most expensive stored hash within it needs half a minute of a processor or more. It needs twice
+    that time if an old secret is tried. A service sets what its own stored hashes need.
     """
 
-    memory_cost: int = 2097152
-    time_cost: int = 64
-    parallelism: int = 64
-    min_hash_len: int = 16
-    max_hash_len: int = 64
+    memory_cost: int = _lib.ARGON2P_BOUND_MEMORY
+    time_cost: int = _lib.ARGON2P_BOUND_PASSES
+    parallelism: int = _lib.ARGON2P_BOUND_LANES
+    min_hash_len: int = _lib.ARGON2P_BOUND_MIN_OUTPUT
+    max_hash_len: int = _lib.ARGON2P_BOUND_MAX_OUTPUT
 
 
 @dataclass(frozen=True)
@@ -189,7 +189,7 @@ class PasswordHasher:
     time_cost: the passes of new stored hashes, at least 1
     memory_cost: their memory in KiB, at least 8 for each lane
     parallelism: their lanes, from 1 to 16777215, which change the tag
-    hash_len: the bytes of their tag, from 4 to 64; the method `tag` also makes longer tags
+    hash_len: the bytes of their tag, from 4 to 64
     algorithm: their variant
     version: their version, 19 (0x13) or 16 (0x10)
     secret: the secret key, which enters each tag, and which no stored hash shows
@@ -199,24 +199,25 @@ class PasswordHasher:
     keyid: a key identifier of at most 8 bytes, for example of the secret. New stored hashes show it
     data: associated data of at most 32 bytes, which enters the tag of new stored hashes, and which
         they show
-    bound: what verifying a stored hash may cost
+    bound: what verifying a stored hash may cost. New stored hashes must be within it
     threads: the most threads that fill the lanes of a hash; 0 is as many as lanes. They do not
         change the tag
-    max_memory: the most KiB that the hashes of this object hold at once, in all threads. A hash
-        waits until there is room for it, in the order of asking. A stored hash that asks for more
-        than this is ABOVE_BOUND. This also sets M_MMAP_THRESHOLD of mallopt(3) for the whole
-        process, because glibc otherwise keeps the freed memory of a hash for each thread, up to 32
-        MiB
+    max_memory: the most KiB that the hashes of this object hold at once, in all threads, or a
+        `Memory`, which bounds the hashes of several objects together. A hash waits until there is
+        room for it, in the order of asking. A stored hash that asks for more than this is
+        ABOVE_BOUND
     timeout: the seconds after which a hash that waits is `Busy`. If this is None, a hash waits for
-        any time
+        any time. (A `Memory` has a timeout of its own)
 
     Secrets, the key identifier and the data are copied, so the caller may clear what it gave. The
-    copies stay as long as this object.
+    copies stay as long as this object. The attribute `keyid` is the bytes of the key identifier, and
+    `memory` is the `Memory` of max_memory, or None.
 
-    Error: MEMORY_TOO_LITTLE; LANES_TOO_FEW; LANES_TOO_MANY; PASSES_TOO_FEW; OUTPUT_TOO_SHORT (a
-        hash_len below 4); OUTPUT_TOO_LONG (above 4294967295); KEYID_TOO_LONG; DATA_TOO_LONG;
-        ALGORITHM; VERSION; SECRET_TOO_LONG
-    ValueError: a timeout without max_memory; a max_memory that is less than memory_cost
+    Error: WANTED_OUT_OF_BOUND (new stored hashes would be outside the bound or need more than
+        max_memory); MEMORY_TOO_LITTLE; LANES_TOO_FEW; LANES_TOO_MANY; PASSES_TOO_FEW;
+        OUTPUT_TOO_SHORT (a hash_len below 4); OUTPUT_TOO_LONG (above 64); KEYID_TOO_LONG;
+        DATA_TOO_LONG; ALGORITHM; VERSION; SECRET_TOO_LONG
+    ValueError: a timeout without a max_memory in KiB
     """
 
     def __init__(
@@ -234,9 +235,16 @@ class PasswordHasher:
         data: str | bytes = b"",
         bound: Bound = Bound(),
         threads: int = 0,
-        max_memory: int | None = None,
+        max_memory: int | Memory | None = None,
         timeout: float | None = None,
     ) -> None:
+        if max_memory is None or isinstance(max_memory, Memory):
+            if timeout is not None:
+                raise ValueError("timeout is only for hashes that wait, with a max_memory in KiB")
+            self.memory = max_memory
+        else:
+            self.memory = Memory(max_memory, timeout)
+        most = bound.memory_cost if self.memory is None else min(bound.memory_cost, self.memory.limit)
         # (these are copies, so they stay if the caller clears or changes the arguments)
         values = [_bytes_of(it) for it in (secret, b"" if old_secret is None else old_secret, keyid, data)]
         # (the structures of C point to these buffers, so they are kept)
@@ -247,21 +255,16 @@ class PasswordHasher:
             threads=threads, output_len=hash_len, has_output_len=1, secret=key, secret_len=len(key), keyid=name,
             keyid_len=len(name), data=more, data_len=len(more),
         )  # fmt: skip
-        most = bound.memory_cost if max_memory is None else min(bound.memory_cost, max_memory)
         self._verifier = _structure(
             "argon2p_verifier", m_cost=most, t_cost=bound.time_cost, p_cost=bound.parallelism, threads=threads,
             min_output=bound.min_hash_len, max_output=bound.max_hash_len, has_old_secret=old_secret is not None, secret=key,
             secret_len=len(key), old_secret=_ffi.NULL if old_secret is None else old, old_secret_len=len(old),
         )  # fmt: skip
-        self._hash_len = hash_len
         self.keyid = values[2]
-        self._kind = algorithm, version, self.keyid, values[3]
-        _must(_lib.argon2p_check(self._params))
-        if max_memory is None and timeout is not None:
-            raise ValueError("timeout is only for hashes that wait, with max_memory")
-        if max_memory is not None and max_memory < memory_cost:
-            raise ValueError(f"max_memory is {max_memory} KiB, and one hash takes {memory_cost}")
-        self._memory = None if max_memory is None else Memory(max_memory, timeout)
+        # (a login looks for what is wrong with these structures before it reads the stored hash, which here has no characters)
+        code, _ = self._log_in(_buffer(""), _buffer(""))
+        if code != _lib.ARGON2P_TEXT_INVALID:
+            _must(code)
 
     def hash(self, password: str | bytes, *, salt: bytes | None = None) -> str:
         """Returns the hash of a password, to be stored.
@@ -270,8 +273,7 @@ class PasswordHasher:
         salt: 8 to 48 bytes; if it is None, the system draws 16 bytes
 
         Busy: there was no room for the hash within the timeout
-        Error: SALT_TOO_SHORT; SALT_TOO_LONG; OUTPUT_TOO_LONG (a hash_len above 64);
-            PASSWORD_TOO_LONG; NO_RANDOM; OUT_OF_MEMORY
+        Error: SALT_TOO_SHORT; SALT_TOO_LONG; PASSWORD_TOO_LONG; NO_RANDOM; OUT_OF_MEMORY
         """
         given, text = _buffer(password), _ffi.new("char[]", _lib.ARGON2P_TEXT_SIZE)
         # (a value can have more bytes than items; an empty salt has an address too, so that the library draws none in its place)
@@ -296,25 +298,30 @@ class PasswordHasher:
             ALGORITHM; VERSION; OUTPUT_OUT_OF_BOUND; PASSWORD_TOO_LONG; SECRET_TOO_LONG;
             OUT_OF_MEMORY; and last `Mismatch`
         """
-        self._is_by_old_secret(text, password)
+        stored, given = _text(text), _buffer(password)
+        with self._lent(self._needed(stored)):
+            _must(_lib.argon2p_verify(self._verifier, stored, len(stored), given, len(given), _ffi.NULL))
         return True
 
     def log_in(self, text: str, password: str | bytes) -> str:
         """Verifies a password, and returns the stored hash to store from now on.
 
         This is a new hash if `text` accepted the password only under the old secret, or is weaker
-        than new hashes (`is_weaker`). Otherwise it is `text`. It is also `text` if no new hash can be
-        made, for example because the system has no memory. A password that is accepted never gets an
-        error for that reason.
+        than new hashes (`is_weaker`). Otherwise it is `text`. It is also `text` if the system refuses
+        memory or random bytes for a new hash. The next login tries again.
 
         text, password: as in `verify`, which also lists the errors
+
+        Busy: there was no room, within the timeout, for the stored hash or for a new hash, whichever
+            needs more. The password was not verified
+        Error: as in `verify`
         """
-        if self._is_by_old_secret(text, password) or self.is_weaker(text):
-            try:
-                return self.hash(password)
-            except (Error, Busy):
-                pass
-        return text
+        stored, given = _text(text), _buffer(password)
+        # (a stored hash with less memory than new hashes is weaker, so a login by it also makes a new hash)
+        with self._lent(self._needed(stored, self._params.m_cost)):
+            code, fresh = self._log_in(stored, given)
+        _must(code)
+        return fresh or text
 
     def is_weaker(self, text: str) -> bool:
         """Returns whether a stored hash is weaker than new hashes.
@@ -326,9 +333,7 @@ class PasswordHasher:
 
         Error: as in `parse`
         """
-        shown = parse(text)
-        kind = shown.algorithm, shown.version, shown.keyid, shown.data
-        return kind != self._kind or self.needs_rehash(text) == Renewal.BELOW
+        return bool(self._compared(_lib.argon2p_is_weaker, text))
 
     def needs_rehash(self, text: str) -> Renewal:
         """Returns whether a stored hash shows other parameters than new hashes. A stored hash does not
@@ -338,39 +343,51 @@ class PasswordHasher:
 
         Error: as in `parse`
         """
-        given, answer = _text(text), _ffi.new("int *")
-        _must(_lib.argon2p_needs_rehash(self._params, given, len(given), answer))
-        return Renewal(answer[0])
+        return Renewal(self._compared(_lib.argon2p_needs_rehash, text))
 
-    def tag(self, password: str | bytes, salt: bytes) -> bytes:
-        """Returns only a tag, of `hash_len` bytes, for example as a key.
+    def tag(self, password: str | bytes, salt: bytes, length: int | None = None) -> bytes:
+        """Returns only a tag, for example as a key.
 
         password: at most 4294967295 bytes
         salt: 8 to 4294967295 bytes
+        length: the bytes of the tag, from 4 to 4294967295; if it is None, they are `hash_len`
 
         Busy: there was no room for the hash within the timeout
-        Error: PASSWORD_TOO_LONG; SALT_TOO_SHORT; SALT_TOO_LONG; OUT_OF_MEMORY
+        Error: OUTPUT_TOO_SHORT; OUTPUT_TOO_LONG; PASSWORD_TOO_LONG; SALT_TOO_SHORT; SALT_TOO_LONG;
+            OUT_OF_MEMORY
         """
-        given, start, out = _buffer(password), _buffer(salt), bytearray(self._hash_len)
-        size = len(given), len(start)
-        with self._lent(self._params.m_cost):
-            _must(_lib.argon2p_hash_into(self._params, given, size[0], start, size[1], _buffer(out), len(out), _ffi.NULL, 0))
+        params = _ffi.new("argon2p_params *", self._params[0])
+        if length is not None:
+            params.output_len = length
+        given, start, out = _buffer(password), _buffer(salt), bytearray(params.output_len)
+        with self._lent(params.m_cost):
+            code = _lib.argon2p_hash_into(params, given, len(given), start, len(start), _buffer(out), len(out), _ffi.NULL, 0)
+        _must(code)
         return bytes(out)
 
-    def _is_by_old_secret(self, text: str, password: str | bytes) -> bool:
-        """Verifies a stored hash, and returns whether the old secret accepted the password."""
-        stored, given, answer = _text(text), _buffer(password), _ffi.new("int *")
-        with self._lent(self._needed(stored)):
-            _must(_lib.argon2p_verify(self._verifier, stored, len(stored), given, len(given), answer))
-        return bool(answer[0])
+    def _log_in(self, stored: Any, given: Any) -> tuple[int, str]:
+        """Returns the code of a login, and the new hash, which is empty if there is none."""
+        fresh = _ffi.new("char[]", _lib.ARGON2P_TEXT_SIZE)
+        words = stored, len(stored), given, len(given), fresh, len(fresh), _ffi.new("int *")
+        code: int = _lib.argon2p_log_in(self._params, self._verifier, *words)
+        return code, _ffi.string(fresh).decode()
 
-    def _needed(self, stored: Any) -> int:
-        """Returns the KiB that verifying a stored hash needs, or 0 if the stored hash is not valid or above the bound."""
+    def _compared(self, call: Any, text: str) -> int:
+        """Returns the answer of a call that compares a stored hash with new hashes."""
+        stored, answer = _text(text), _ffi.new("int *")
+        _must(call(self._params, stored, len(stored), answer))
+        return int(answer[0])
+
+    def _needed(self, stored: Any, least: int = 0) -> int:
+        """Returns the KiB that a call with a stored hash needs, at least `least`.
+
+        They are 0 if the stored hash is not valid or above the bound, because such a call makes no hash.
+        """
         shown, most = _structure("argon2p_shown"), self._verifier
         is_read = _lib.argon2p_parse(stored, len(stored), shown) == _lib.ARGON2P_OK
         is_within = shown.m_cost <= most.m_cost and shown.t_cost <= most.t_cost and shown.p_cost <= most.p_cost
-        return shown.m_cost if is_read and is_within else 0
+        return max(shown.m_cost, least) if is_read and is_within else 0
 
     def _lent(self, size: int) -> ContextManager[None]:
         """Returns the context of a call that holds `size` KiB. If `max_memory` bounds them, it waits until they are free."""
-        return nullcontext() if self._memory is None or size == 0 else self._memory.lend(size)
+        return nullcontext() if self.memory is None or size == 0 else self.memory.lend(size)

@@ -19,10 +19,17 @@ class Busy(TimeoutError):
 
 
 class Memory:
-    """Lends at most `limit` KiB at once. Requests are served in their order, so small requests do not starve a large one."""
+    """The memory of the hashes of all objects that have it as their `max_memory`.
 
-    def __init__(self, limit: int, timeout: float | None) -> None:
-        self._free = self._limit = limit
+    Hashes are served in the order in which they ask, so small hashes do not starve a large one. This also sets M_MMAP_THRESHOLD
+    of mallopt(3) for the whole process, because glibc otherwise keeps the freed memory of a hash for each thread, up to 32 MiB.
+
+    limit: the most KiB that the hashes hold at once
+    timeout: the seconds after which a hash that waits is `Busy`. If this is None, a hash waits for any time
+    """
+
+    def __init__(self, limit: int, timeout: float | None = None) -> None:
+        self.limit = self._free = limit
         self._timeout = timeout
         self._lock = threading.Lock()
         self._queue: deque[threading.Condition] = deque()
@@ -36,7 +43,7 @@ class Memory:
             self._queue.append(turn)
             try:
                 if not turn.wait_for(lambda: self._queue[0] is turn and size <= self._free, self._timeout):
-                    raise Busy(f"{size} of {self._limit} KiB were not free within {self._timeout} seconds")
+                    raise Busy(f"{size} of {self.limit} KiB were not free within {self._timeout} seconds")
                 self._free -= size
             finally:
                 self._queue.remove(turn)

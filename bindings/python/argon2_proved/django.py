@@ -24,11 +24,10 @@ from django.utils.translation import gettext_noop as _
 
 import argon2_proved
 
-from ._memory import Memory
-
 LOG = logging.getLogger(__name__)
 # The most characters that Django's field for a stored hash holds.
 ROOM = 128
+COSTS = "memory_cost", "time_cost", "parallelism"
 
 
 class PasswordHasher(hashers.BasePasswordHasher):
@@ -40,25 +39,20 @@ class PasswordHasher(hashers.BasePasswordHasher):
     algorithm = "argon2"
 
     def __init__(self) -> None:
-        costs = {it: getattr(hashers.Argon2PasswordHasher, it) for it in ("time_cost", "memory_cost", "parallelism")}
-        self._options = {**costs, **getattr(settings, "ARGON2_PROVED", {})}
-        old_secret = self._options.pop("old_secret", None)
-        secret = self._options.get("secret")
+        costs = {it: getattr(hashers.Argon2PasswordHasher, it) for it in COSTS}
+        options = self._options = {**costs, **getattr(settings, "ARGON2_PROVED", {})}
+        old_secret, secret = options.pop("old_secret", None), options.get("secret")
         if isinstance(secret, (bytes, bytearray, str)) and not secret:
             raise ImproperlyConfigured("ARGON2_PROVED: the secret is empty; leave it out to hash without a secret")
-        self._memory: Memory | None = None
         try:
-            self._new = self._hasher()
-            self._memory = self._new._memory
-            self._old = None if old_secret is None else self._hasher(secret=old_secret)
+            self._new = argon2_proved.PasswordHasher(**options)
+            # (the other hashers share the memory of this one)
+            options.update(max_memory=self._new.memory, timeout=None)
+            self._old = None if old_secret is None else argon2_proved.PasswordHasher(**{**options, "secret": old_secret})
         except (argon2_proved.Error, OverflowError, TypeError, ValueError) as error:
             raise ImproperlyConfigured(f"ARGON2_PROVED: {error}") from error
         if self._old and not self._new.keyid:
             raise ImproperlyConfigured("ARGON2_PROVED: an old_secret needs a keyid, which names the new secret")
-        new, most = self._new._params, self._new._verifier
-        is_accepted = new.m_cost <= most.m_cost and new.t_cost <= most.t_cost and new.p_cost <= most.p_cost
-        if not (is_accepted and most.min_output <= new.output_len <= most.max_output):
-            raise ImproperlyConfigured("ARGON2_PROVED: new passwords would be out of the bound")
 
     def encode(self, password: str | bytes, salt: str) -> str:
         """Returns the hash of a password and a salt of 8 to 48 bytes, to be stored."""
@@ -111,12 +105,12 @@ class PasswordHasher(hashers.BasePasswordHasher):
 
         Work is memory times passes. So the time of a refusal shows little about whose stored hash is weaker.
         """
-        wanted = self._new._params
+        memory_cost, time_cost, parallelism = (self._options[it] for it in COSTS)
         with contextlib.suppress(argon2_proved.Error, argon2_proved.Busy, ValueError):
             shown = argon2_proved.parse(self._text(encoded))
-            memory = wanted.m_cost - shown.memory_cost * shown.time_cost // wanted.t_cost
-            if memory >= 8 * wanted.p_cost:
-                self._hasher(memory_cost=memory).hash(password)
+            memory = memory_cost - shown.memory_cost * shown.time_cost // time_cost
+            if memory >= 8 * parallelism:
+                argon2_proved.PasswordHasher(**{**self._options, "memory_cost": memory}).hash(password)
 
     def safe_summary(self, encoded: str) -> dict[str, Any]:
         """Returns what Django's admin may show of a stored hash, under the names that Django's Argon2PasswordHasher uses."""
@@ -135,12 +129,6 @@ class PasswordHasher(hashers.BasePasswordHasher):
     def _text(self, encoded: str) -> str:
         """Returns the PHC string in one of Django's stored hashes."""
         return encoded[len(self.algorithm) :]
-
-    def _hasher(self, **changes: Any) -> argon2_proved.PasswordHasher:
-        """Returns a hasher of the setting with these changes. All hashers of this object share the bound on memory."""
-        hasher = argon2_proved.PasswordHasher(**{**self._options, **changes})
-        hasher._memory = self._memory or hasher._memory
-        return hasher
 
     def _hasher_of(self, text: str) -> argon2_proved.PasswordHasher:
         """Returns the hasher with the secret of a stored hash."""
