@@ -18,7 +18,7 @@ func logIn(hasher *argon2proved.Hasher, stored, password string) (string, bool) 
 	slots <- struct{}{}
 	defer func() { <-slots }()
 	fresh, err := hasher.LogIn(stored, []byte(password))
-	if err != nil && !errors.Is(err, argon2proved.ErrMismatch) && !errors.Is(err, argon2proved.ErrEmptyPassword) {
+	if err != nil && !errors.Is(err, argon2proved.ErrMismatch) {
 		log.Print("a stored hash is not verified: ", err)
 	}
 	return fresh, err == nil

@@ -4,12 +4,20 @@ import (
 	"bytes"
 	"encoding/base64"
 	"encoding/hex"
+	"encoding/json"
 	"errors"
+	"os"
 	"regexp"
 	"strings"
 	"sync"
 	"testing"
 )
+
+// A hash of "abc" that the reference made.
+const ofABC = "$argon2id$v=19$m=8,t=1,p=1$c29tZXNhbHQ$LVJKYEkaeNsu5UCkG00QmN9KvYwrpueSxItaCk3nAjU"
+
+// most is a bound on no stored hash.
+var most = Bound{Memory: 1<<32 - 1, Passes: 1<<32 - 1, Lanes: 1<<32 - 1, MinHashLen: 4}
 
 // made returns a Hasher with low costs, unless the options say otherwise.
 func made(t *testing.T, options Options) *Hasher {
@@ -77,7 +85,7 @@ func TestHash(t *testing.T) {
 	if !form.MatchString(one) || one == two {
 		t.Error(one, two)
 	}
-	for _, password := range []string{"pass\x00wörd", "pass\x00word", "pass"} {
+	for _, password := range []string{"pass\x00wörd", "pass\x00word", "pass", ""} {
 		if err := h.Verify(one, []byte(password)); (err == nil) != (password == "pass\x00wörd") {
 			t.Error(password, err)
 		}
@@ -95,18 +103,10 @@ func TestHash(t *testing.T) {
 	if err := h.Verify(text(t, h, "abc"), beside.password[:]); err != nil {
 		t.Error(err)
 	}
-}
-
-func TestEmptyPassword(t *testing.T) {
-	h := made(t, Options{})
-	stored := text(t, h, "abc")
+	empty := text(t, h, "")
 	for _, password := range [][]byte{nil, {}} {
-		_, hashed := h.Hash(password)
-		_, loggedIn := h.LogIn(stored, password)
-		for _, err := range []error{hashed, loggedIn, h.Verify(stored, password)} {
-			if !errors.Is(err, ErrEmptyPassword) {
-				t.Error(err)
-			}
+		if _, err := h.LogIn(empty, password); err != nil || h.Verify(empty, password) != nil {
+			t.Error(password, err)
 		}
 	}
 }
@@ -119,35 +119,28 @@ func TestRefused(t *testing.T) {
 	}{
 		{Options{Memory: 7}, -14},
 		{Options{Memory: 15, Lanes: 2}, -14},
-		{Options{Lanes: 1 << 24, Memory: 1<<32 - 1}, -17},
-		{Options{HashLen: 3}, -2},
-		{Options{HashLen: 65}, -3},
+		{Options{Memory: 1<<32 - 1, Lanes: 1 << 24, Bound: Bound{Memory: 1<<32 - 1, Lanes: 1 << 24}}, -17},
+		{Options{HashLen: 3, Bound: Bound{MinHashLen: 1}}, -2},
+		{Options{HashLen: 65, Bound: Bound{MaxHashLen: 65}}, -3},
 		{Options{KeyID: make([]byte, 9)}, -69},
 		{Options{Data: make([]byte, 33)}, -9},
+		// (new hashes would be refused)
+		{Options{Memory: 2097153}, ErrWantedOutOfBound},
+		{Options{Passes: 65}, ErrWantedOutOfBound},
+		{Options{Lanes: 65, Memory: 1 << 20}, ErrWantedOutOfBound},
+		{Options{HashLen: 15}, ErrWantedOutOfBound},
+		{Options{HashLen: 65}, ErrWantedOutOfBound},
 	} {
 		if h, err := New(it.options); h != nil || !errors.Is(err, it.err) {
 			t.Error(it.options, err)
 		}
 	}
-	if _, err := made(t, Options{Memory: 1<<32 - 1}).Hash([]byte("abc")); !errors.Is(err, ErrOutOfMemory) {
-		t.Error(err)
-	}
-	const salt, hash = "$c29tZXNhbHQ$", "LVJKYEkaeNsu5UCkG00QmN9KvYwrpueSxItaCk3nAjU"
-	h := made(t, Options{Bound: Bound{Memory: 64, Passes: 2, Lanes: 2, MinHashLen: 24, MaxHashLen: 32}})
+	h := made(t, Options{Bound: Bound{MinHashLen: 24, MaxHashLen: 32}})
 	for stored, wanted := range map[string]Error{
-		"":                                   ErrTextInvalid,
-		"x":                                  ErrTextInvalid,
-		"$argon2id$v=19$m=8,t=1,p=1\x00":     ErrTextInvalid,
-		strings.Repeat("$", 1000):            ErrTextInvalid,
-		"$argon2id$v=19$m=8,t=1,p=1":         -87,
-		"$argon2x$m=8,t=1,p=1" + salt + hash: -70,
-		"$argon2id$v=19$m=65,t=1,p=1" + salt + hash:         ErrAboveBound,
-		"$argon2id$v=19$m=8,t=3,p=1" + salt + hash:          ErrAboveBound,
-		"$argon2id$v=19$m=24,t=1,p=3" + salt + hash:         ErrAboveBound,
-		"$argon2id$v=19$m=4294967295,t=1,p=1" + salt + hash: ErrAboveBound,
-		"$argon2id$v=19$m=8,t=1,p=1" + salt + hash[:28]:     ErrOutputOutOfBound,
-		"$argon2id$v=19$m=8,t=1,p=1" + salt + hash + "A":    ErrOutputOutOfBound,
-		"$argon2id$v=19$m=16,t=1,p=2" + salt + hash:         ErrMismatch,
+		ofABC + "\x00":            ErrTextInvalid,
+		strings.Repeat("$", 1000): ErrTextInvalid,
+		ofABC[:len(ofABC)-15]:     ErrOutputOutOfBound,
+		ofABC + "A":               ErrOutputOutOfBound,
 	} {
 		_, loggedIn := h.LogIn(stored, []byte("abc"))
 		for _, err := range []error{h.Verify(stored, []byte("abc")), loggedIn} {
@@ -155,9 +148,6 @@ func TestRefused(t *testing.T) {
 				t.Error(stored, err)
 			}
 		}
-	}
-	if stored := "$argon2id$v=19$m=8,t=1,p=1" + salt + hash; h.Verify(stored, []byte("abc")) != nil {
-		t.Error(stored)
 	}
 }
 
@@ -201,47 +191,118 @@ func TestRotation(t *testing.T) {
 	}
 }
 
-func TestRenewal(t *testing.T) {
-	options := Options{Memory: 64, Passes: 2, Lanes: 2, HashLen: 24, KeyID: []byte("1"), Data: []byte("2")}
-	now := made(t, options)
-	for _, it := range []struct {
-		change func(o *Options)
-		stays  bool
-	}{
-		{func(o *Options) {}, true},
-		{func(o *Options) { o.Memory, o.Passes, o.Lanes, o.HashLen = 65, 3, 3, 32 }, true},
-		{func(o *Options) { o.Memory, o.Passes, o.Lanes, o.HashLen = 63, 3, 3, 32 }, false},
-		{func(o *Options) { o.Memory, o.Passes, o.Lanes, o.HashLen = 65, 1, 3, 32 }, false},
-		{func(o *Options) { o.Memory, o.Passes, o.Lanes, o.HashLen = 65, 3, 1, 32 }, false},
-		{func(o *Options) { o.Memory, o.Passes, o.Lanes, o.HashLen = 65, 3, 3, 23 }, false},
-		{func(o *Options) { o.KeyID = nil }, false},
-		{func(o *Options) { o.Data = []byte("3") }, false},
-	} {
-		other := options
-		it.change(&other)
-		stored := text(t, made(t, other), "abc")
-		fresh, err := now.LogIn(stored, []byte("abc"))
-		if err != nil || (fresh == stored) != it.stays || now.Verify(fresh, []byte("abc")) != nil {
-			t.Error(stored, fresh, err)
-		}
-		if !it.stays && !strings.HasPrefix(fresh, "$argon2id$v=19$m=64,t=2,p=2,keyid=MQ,data=Mg$") {
-			t.Error(fresh)
-		}
-		// (there is no memory for a new hash)
-		unable := made(t, Options{Memory: 1<<32 - 1, KeyID: []byte("1"), Data: []byte("2")})
-		if kept, err := unable.LogIn(stored, []byte("abc")); err != nil || kept != stored {
-			t.Error(kept, err)
+// What the reasons in vectors/argon2_login.json are here.
+var reasons = map[string]Error{
+	"WantedAboveBound":  ErrWantedOutOfBound,
+	"WrongPassword":     ErrMismatch,
+	"AlgorithmUnknown":  -70,
+	"VersionUnknown":    -71,
+	"Grammar":           ErrTextInvalid,
+	"MemoryInvalid":     -81,
+	"PassesInvalid":     -82,
+	"LanesInvalid":      -83,
+	"KeyidInvalid":      -84,
+	"DataInvalid":       -85,
+	"ParametersInvalid": -86,
+	"Incomplete":        -87,
+	"AboveBound":        ErrAboveBound,
+}
+
+// digits are bytes that JSON contains as hexadecimal digits, or nil for null.
+type digits []byte
+
+func (d *digits) UnmarshalText(text []byte) error {
+	*d = make([]byte, hex.DecodedLen(len(text)))
+	_, err := hex.Decode(*d, text)
+	return err
+}
+
+// A login of vectors/argon2_login.json.
+type login struct {
+	TcID   int
+	Wanted struct {
+		Algorithm       string
+		Version         int
+		M, T, P, Length uint32
+		KeyID, Data     digits
+	}
+	Bound             struct{ M, T, P uint32 }
+	Secret, OldSecret digits
+	Text              string
+	Password          digits
+	Result, Reason    string
+	Due               bool
+}
+
+// The answers to the logins of vectors/argon2_login.json, which an independent model gives.
+func TestLogins(t *testing.T) {
+	file, err := os.ReadFile("../../vectors/argon2_login.json")
+	if errors.Is(err, os.ErrNotExist) {
+		t.Skip("this folder is not in a clone")
+	}
+	var table struct{ TestGroups []struct{ Tests []login } }
+	if err == nil {
+		err = json.Unmarshal(file, &table)
+	}
+	if err != nil {
+		t.Fatal(err)
+	}
+	tried := 0
+	for _, it := range table.TestGroups[0].Tests {
+		// (Options have no algorithm and no version)
+		if it.Wanted.Algorithm == "argon2id" && it.Wanted.Version == 19 {
+			tried++
+			try(t, it)
 		}
 	}
-	// (the reference made these, one of another version and one of another algorithm)
-	for _, stored := range []string{
-		"$argon2id$v=16$m=8,t=1,p=1$c29tZXNhbHQ$DqgrnUaHA06f/MATrDPHREFoofxPxUtIFMg5c76lJoc",
-		"$argon2i$v=19$m=8,t=1,p=1$c29tZXNhbHQ$L4xqJr9CL9NvnqcqeOEz+pE/JoSz2prh9Y47/5xMUJA",
-	} {
-		fresh, err := made(t, Options{Memory: 8}).LogIn(stored, []byte("abc"))
-		if err != nil || fresh == stored {
-			t.Error(stored, fresh, err)
+	if tried < 200 {
+		t.Error(tried)
+	}
+}
+
+// try requires the answer to a login.
+func try(t *testing.T, it login) {
+	options := Options{
+		Memory: it.Wanted.M, Passes: it.Wanted.T, Lanes: it.Wanted.P, HashLen: it.Wanted.Length,
+		Secret: it.Secret, OldSecret: it.OldSecret, KeyID: it.Wanted.KeyID, Data: it.Wanted.Data,
+		Bound: Bound{Memory: it.Bound.M, Passes: it.Bound.T, Lanes: it.Bound.P, MinHashLen: 4},
+	}
+	h, err := New(options)
+	var fresh string
+	if err == nil {
+		fresh, err = h.LogIn(it.Text, it.Password)
+	}
+	if it.Result == "invalid" {
+		if err != reasons[it.Reason] || fresh != "" || h != nil && h.Verify(it.Text, it.Password) != err {
+			t.Error(it.TcID, fresh, err)
 		}
+		return
+	}
+	if err != nil || h.Verify(it.Text, it.Password) != nil || (fresh != it.Text) != it.Due {
+		t.Error(it.TcID, fresh, err)
+	}
+	options.OldSecret = nil
+	if again, err := made(t, options).LogIn(fresh, it.Password); it.Due && (err != nil || again != fresh) {
+		t.Error(it.TcID, again, err)
+	}
+	// (a new hash is due, and there is no memory for it)
+	options.Memory, options.OldSecret, options.Bound = 1<<32-1, it.OldSecret, most
+	if kept, err := made(t, options).LogIn(it.Text, it.Password); err != nil || kept != it.Text {
+		t.Error(it.TcID, kept, err)
+	}
+}
+
+// tests/examples runs this test again, with NO_RANDOM in its environment, on a system that gives no random bytes.
+func TestKept(t *testing.T) {
+	h, wanted := made(t, Options{Memory: 1<<32 - 1, Bound: most}), ErrOutOfMemory
+	if os.Getenv("NO_RANDOM") != "" {
+		h, wanted = made(t, Options{}), Error(-74)
+	}
+	if text, err := h.Hash([]byte("abc")); text != "" || err != wanted {
+		t.Error(text, err)
+	}
+	if kept, err := h.LogIn(ofABC, []byte("abc")); kept != ofABC || err != nil {
+		t.Error(kept, err)
 	}
 }
 
