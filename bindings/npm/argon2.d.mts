@@ -30,13 +30,16 @@ export interface TextOptions extends TagOptions {
   keyid?: Bytes;
 }
 
-/** The most that verifying a stored hash may cost, and the bytes that its tag may have. */
+/**
+ * The most that verifying a stored hash may cost, and the bytes that its tag may have. The defaults are those of argon2_phc.h,
+ * except for less memory.
+ */
 export interface Bound {
   /** The most memory in KiB; 262144 if it is left out. */
   memory?: number;
-  /** The most passes; 8 if it is left out. */
+  /** The most passes; 64 if it is left out. */
   passes?: number;
-  /** The most lanes; 16 if it is left out. */
+  /** The most lanes; 64 if it is left out. */
   lanes?: number;
   /** The fewest bytes of the tag; 16 if it is left out. */
   minLength?: number;

@@ -2,6 +2,7 @@
 // PHC strings as their contracts state. This file copies their inputs and outputs, and names their answers.
 
 import { Argon2Error, MISMATCH, must, OUT_OF_MEMORY } from "./error.mjs";
+import { DEFAULT_BOUND } from "./header.mjs";
 import { Instance } from "./instance.mjs";
 import { complete, whole } from "./options.mjs";
 
@@ -11,8 +12,8 @@ const ALGORITHMS = ["argon2d", "argon2i", "argon2id"];
 const COSTS = { algorithm: "argon2id", version: 19, memory: 19456, passes: 2, lanes: 1, length: 32 };
 const TAG = { ...COSTS, secret: "", data: "" };
 const TEXT = { ...TAG, keyid: "" };
-// A phone can bear this: the most expensive stored hash needs 256 MiB, and the time of eleven hashes of 64 MiB and three passes.
-const BOUND = { memory: 262144, passes: 8, lanes: 16, minLength: 16, maxLength: 64 };
+// (the library's default bound has 2 GiB, which a page or a pool of workers may not get)
+const BOUND = { ...DEFAULT_BOUND, memory: 262144 };
 const VERIFYING = { secret: "", oldSecret: undefined, bound: BOUND };
 
 const DRAWN_SALT = 16;

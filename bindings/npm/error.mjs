@@ -1,4 +1,4 @@
-import { CODES } from "./codes.mjs";
+import { CODES } from "./header.mjs";
 
 /** A refusal. `code` is its name, such as ABOVE_BOUND, and `number` is the number of this name in argon2_phc.h. */
 export class Argon2Error extends Error {

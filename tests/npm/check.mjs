@@ -8,6 +8,7 @@ import { KNOWN, MODULES, runTests, toHex, tryCalls, tryModules, tryWorker } from
 
 const folder = pathToFileURL(`${process.argv[2]}/`);
 const readModule = (name) => new Uint8Array(readFileSync(new URL(name, folder)));
+const header = readFileSync(new URL("../../bindings/c/argon2_phc.h", import.meta.url), "utf8");
 const WORKER = JSON.stringify(new URL("node-worker.mjs", folder).href);
 
 // A program that reads the answer of a worker only after it has ended the worker.
@@ -47,14 +48,21 @@ const TESTS = {
   },
 
   "the codes of argon2_phc.h": async () => {
-    const { CODES } = await import(new URL("codes.mjs", folder));
-    const header = readFileSync(new URL("../../bindings/c/argon2_phc.h", import.meta.url), "utf8");
+    const { CODES } = await import(new URL("header.mjs", folder));
     const codes = [...header.matchAll(/\bARGON2P_([A-Z_]+) = (-\d+)/g)];
     check(codes.length > 30 && codes.length === CODES.size, codes.length);
     for (const [, name, number] of codes) {
       const [code, message] = CODES.get(Number(number));
       check(code === name && message.length > 5, name, code);
     }
+  },
+
+  "the default bound of argon2_phc.h": async () => {
+    const { DEFAULT_BOUND } = await import(new URL("header.mjs", folder));
+    const numberOf = (name) => Number(header.match(new RegExp(`^#define ARGON2P_BOUND_${name} (\\d+)`, "m"))[1]);
+    const wanted = ["MEMORY", "PASSES", "LANES", "MIN_OUTPUT", "MAX_OUTPUT"].map(numberOf);
+    const { memory, passes, lanes, minLength, maxLength } = DEFAULT_BOUND;
+    check([memory, passes, lanes, minLength, maxLength].join() === wanted.join(), DEFAULT_BOUND, wanted);
   },
 
   "a worker": async () => {

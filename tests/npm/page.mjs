@@ -58,7 +58,7 @@ const TESTS = {
       const said = await send("verifying", { given });
       check(wanted.test(said), said);
     }
-    const said = await send("verifying", { text: text.replace("t=2", "t=9") });
+    const said = await send("verifying", { text: text.replace("t=2", "t=65") });
     check(/^Not done: .*bound/.test(said), said);
     check(page.documentElement.scrollWidth <= frame.clientWidth, page.documentElement.scrollWidth, frame.clientWidth);
     frame.remove();

@@ -98,8 +98,8 @@ const TESTS = {
       ["TEXT_INVALID", verify("é"), verify(`${OF_ABC}\0`), verify(""), () => argon2.needsRehash("x")],
       ["TEXT_INVALID", () => argon2.parse(`${OF_ABC}=`)],
       ["TEXT_INCOMPLETE", verify(OF_ABC.slice(0, OF_ABC.lastIndexOf("$")))],
-      ["ABOVE_BOUND", verify(OF_ABC.replace("m=8", "m=262145")), verify(OF_ABC.replace("t=1", "t=9"))],
-      ["ABOVE_BOUND", verify(OF_ABC.replace("m=8,t=1,p=1", "m=136,t=1,p=17")), verify(OF_ABC, { memory: 7 })],
+      ["ABOVE_BOUND", verify(OF_ABC.replace("m=8", "m=262145")), verify(OF_ABC.replace("t=1", "t=65"))],
+      ["ABOVE_BOUND", verify(OF_ABC.replace("m=8,t=1,p=1", "m=520,t=1,p=65")), verify(OF_ABC, { memory: 7 })],
       ["OUTPUT_OUT_OF_BOUND", verify(OF_ABC.slice(0, -36)), verify(OF_ABC, { maxLength: 31 })],
     ]) {
       for (const call of calls) {
