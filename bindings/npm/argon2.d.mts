@@ -51,7 +51,7 @@ export interface Bound {
 export interface LogInOptions extends TextOptions {
   /** The secret key that is tried if the stored hash does not accept the password under `secret`. */
   oldSecret?: Bytes | undefined;
-  /** The most that verifying the stored hash may cost. */
+  /** The most that verifying the stored hash may cost. New hashes have to be within it. */
   bound?: Bound;
 }
 
@@ -103,8 +103,8 @@ export class Argon2Error extends Error {
 export class Argon2 {
   private constructor();
   /**
-   * Returns the stored hash of a password, a PHC string. The salt has 8 to 48 bytes. If it is left out, the system draws one of
-   * 16 bytes.
+   * Returns the stored hash of a password, a PHC string. An empty password is hashed and verified like any other. The salt has 8
+   * to 48 bytes. If it is left out, the system draws a salt of 16 bytes.
    *
    * Codes: MEMORY_TOO_LITTLE, LANES_TOO_FEW, LANES_TOO_MANY, PASSES_TOO_FEW, OUTPUT_TOO_SHORT, KEYID_TOO_LONG, DATA_TOO_LONG,
    * ALGORITHM, VERSION, SALT_TOO_SHORT, SALT_TOO_LONG, OUTPUT_TOO_LONG, OUT_OF_MEMORY.
@@ -123,21 +123,31 @@ export class Argon2 {
    * object, whose `hash` is a new hash to store from now on, or `null` if the stored hash stays.
    *
    * `logIn` makes a new hash under these options in two cases. In the first, only the old secret accepted the password. In the
-   * second, the stored hash is weaker than new hashes: it has another algorithm, version, key identifier or data, less memory,
-   * fewer passes or lanes, or a shorter tag. Higher costs and a longer tag stay.
+   * second, the stored hash is weaker than new hashes, as `isWeaker` decides.
    *
-   * If there is no memory for a new hash, the stored hash stays. Options under which no hash can be made are refused at each
-   * login, whatever the stored hash and the password are.
+   * An accepted password is never an error. If no new hash can be made, because the system refuses memory or random bytes, the
+   * stored hash stays, and the next login tries again. Options under which no hash can be made, or whose hashes `bound` does not
+   * allow, are refused at each login, whatever the stored hash and the password are.
    *
-   * Codes: the codes of `hash` for the options, and then the codes of `verify`.
+   * Codes: WANTED_OUT_OF_BOUND; the codes of `hash` from MEMORY_TOO_LITTLE to VERSION, and OUTPUT_TOO_LONG; then the codes of
+   * `verify`.
    */
   logIn(text: Bytes, password: Bytes, options?: LogInOptions): LogInAnswer | null;
   /**
-   * Returns whether a stored hash shows other settings than the wanted ones. A stored hash does not show its secret.
+   * Returns whether a stored hash shows other settings than the wanted ones, also if it is stronger. To decide which hashes to
+   * replace, call `logIn` or `isWeaker`. A stored hash does not show its secret.
    *
    * Codes: the codes of `hash` from MEMORY_TOO_LITTLE to VERSION, for the wanted settings; then the codes of `parse`.
    */
   needsRehash(text: Bytes, wanted?: TextOptions): boolean;
+  /**
+   * Returns whether a stored hash is weaker than new hashes, so that `logIn` would replace it. It is weaker if it has another
+   * algorithm, version, key identifier or data, less memory, fewer passes or lanes, or a shorter tag. A stored hash with higher
+   * costs or a longer tag is not weaker. A stored hash does not show its secret.
+   *
+   * Codes: the codes of `needsRehash`.
+   */
+  isWeaker(text: Bytes, wanted?: TextOptions): boolean;
   /**
    * Returns what a stored hash shows. Nothing is hashed.
    *

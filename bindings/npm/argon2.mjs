@@ -1,7 +1,7 @@
 // Each entry of the package exports these functions. The functions of the module are proved to decide, hash, and read and write
 // PHC strings as their contracts state. This file copies their inputs and outputs, and names their answers.
 
-import { Argon2Error, MISMATCH, must, OUT_OF_MEMORY } from "./error.mjs";
+import { Argon2Error, MISMATCH, must } from "./error.mjs";
 import { DEFAULT_BOUND } from "./header.mjs";
 import { Instance } from "./instance.mjs";
 import { complete, whole } from "./options.mjs";
@@ -51,30 +51,29 @@ export class Argon2 {
   /** Returns whether a stored hash accepts a password, and the hash to store from now on. */
   logIn(text, password, options = {}) {
     const { oldSecret, bound, ...wanted } = complete({ ...VERIFYING, ...TEXT }, options);
-    // (so the first login finds wrong settings, and not the first renewal)
-    this.#use((instance) => must(new Inputs(instance, wanted, password, new Uint8Array(DRAWN_SALT)).textRefusal()));
+    this.#use((instance) => {
+      const inputs = new Inputs(instance, wanted, "", "");
+      must(inputs.refusal("phc_wanted_refusal", writeBound(instance, bound), ...inputs.secret, ...inputs.secret));
+    });
     const name = this.#acceptedUnder(text, password, { secret: wanted.secret, oldSecret, bound });
     if (name === undefined) return null;
-    if (name === "secret" && !this.#isWeaker(text, wanted)) return { hash: null };
     try {
-      return { hash: this.hash(password, wanted) };
-    } catch (error) {
-      // (a user whose password is accepted gets no error)
-      if (error instanceof Argon2Error && error.number === OUT_OF_MEMORY) return { hash: null };
-      throw error;
+      const isDue = this.#differs("phc_is_due", text, wanted, Number(name === "oldSecret"));
+      return { hash: isDue ? this.hash(password, wanted) : null };
+    } catch {
+      // (no failure after the password was accepted is an error: the stored hash stays, and the next login tries again)
+      return { hash: null };
     }
   }
 
   /** Returns whether a stored hash shows other settings than the wanted ones. It does not show its secret. */
   needsRehash(text, options = {}) {
-    const wanted = complete(TEXT, options);
-    return this.#use((instance) => {
-      const inputs = new Inputs(instance, wanted, "", "");
-      must(inputs.refusal("params_refusal"));
-      const { request, keyid, data } = inputs;
-      const stored = instance.write(text, "the text");
-      return must(instance.call("phc_renewal", request, BigInt(wanted.length), ...keyid, ...data, ...stored)) !== 0;
-    });
+    return this.#differs("phc_renewal", text, options);
+  }
+
+  /** Returns whether a stored hash is weaker than new hashes, so that `logIn` would replace it. */
+  isWeaker(text, options = {}) {
+    return this.#differs("phc_is_due", text, options, 0);
   }
 
   /** Returns what a stored hash shows. */
@@ -111,9 +110,8 @@ export class Argon2 {
 
   // Returns the name of the secret under which a stored hash accepts a password, if it does.
   #acceptedUnder(text, password, { secret, oldSecret, bound }) {
-    const most = complete(BOUND, bound);
     return this.#use((instance) => {
-      const limits = instance.writeNumbers(...Object.entries(most).map(([name, value]) => whole(value, `the bound's ${name}`)));
+      const limits = writeBound(instance, bound);
       const [stored, given] = [instance.write(text, "the text"), instance.write(password, "the password")];
       const key = instance.write(secret, "the secret");
       const oldKey = oldSecret === undefined ? undefined : instance.write(oldSecret, "the old secret");
@@ -131,13 +129,16 @@ export class Argon2 {
     });
   }
 
-  // Returns whether a stored hash is weaker than new hashes. It shows other settings then; higher costs and a longer tag do not
-  // count.
-  #isWeaker(text, wanted) {
-    const { hash, ...shown } = this.parse(text);
-    const higher = ["memory", "passes", "lanes"].map((name) => [name, Math.max(shown[name], wanted[name])]);
-    const length = Math.max(hash.length, wanted.length);
-    return this.needsRehash(text, { ...wanted, ...Object.fromEntries(higher), length });
+  // Returns whether a function that compares a stored hash with the wanted settings answers with another number than 0.
+  #differs(name, text, options, ...words) {
+    const wanted = complete(TEXT, options);
+    return this.#use((instance) => {
+      const inputs = new Inputs(instance, wanted, "", "");
+      must(inputs.refusal("params_refusal"));
+      const { request, keyid, data } = inputs;
+      const stored = instance.write(text, "the text");
+      return must(instance.call(name, request, BigInt(wanted.length), ...keyid, ...data, ...words, ...stored)) !== 0;
+    });
   }
 
   // Calls a function with an instance. If the call fails, the instance is dropped, because it may have stopped anywhere.
@@ -243,6 +244,12 @@ class Inputs {
     must(this.#instance.call("phc_encode", this.request, ...this.keyid, ...this.data, ...this.salt, ...tag, ...text));
     return this.#instance.readText(text);
   }
+}
+
+// Returns the address of a bound in the memory of an instance.
+function writeBound(instance, bound) {
+  const most = Object.entries(complete(BOUND, bound));
+  return instance.writeNumbers(...most.map(([name, value]) => whole(value, `the bound's ${name}`)));
 }
 
 // Returns what a call shows of a stored hash.

@@ -4,7 +4,7 @@ import { Argon2Error } from "./error.mjs";
 import { bytesOf, isBytes } from "./instance.mjs";
 import { requirePlain } from "./options.mjs";
 
-const NAMES = ["hash", "verify", "logIn", "needsRehash", "parse", "raw"];
+const NAMES = ["hash", "verify", "logIn", "needsRehash", "isWeaker", "parse", "raw"];
 
 /**
  * Answers calls. The first argument is a promise of the functions, and the second argument posts an answer. Returns a function

@@ -26,8 +26,8 @@ export class PoolError extends Error {
 
 /**
  * The functions of an Argon2 as promises. `hash`, `verify`, `logIn` and `raw` wait for a worker in the order of the calls. They
- * copy the bytes and options of a call, so the caller may change them later. `needsRehash` and `parse` make no hash, so they need
- * no worker, and do not wait.
+ * copy the bytes and options of a call, so the caller may change them later. `needsRehash`, `isWeaker` and `parse` make no hash,
+ * so they need no worker, and do not wait.
  */
 export type Argon2Pool = Functions & {
   /**

@@ -6,7 +6,7 @@ import { complete, whole } from "./options.mjs";
 
 // Workers answer the calls of IN_WORKERS. The pool itself answers the calls of HERE, because they make no hash.
 const IN_WORKERS = ["hash", "verify", "logIn", "raw"];
-const HERE = ["needsRehash", "parse"];
+const HERE = ["needsRehash", "isWeaker", "parse"];
 const OPTIONS = { maxQueued: 64, idleTimeout: 10000 };
 // The most milliseconds of a timer. A timer with more milliseconds ends at once.
 const LONGEST = 2 ** 31 - 1;

@@ -5,16 +5,26 @@ export const PASSWORD = "pass wörd";
 export const SETTINGS = { memory: 64, passes: 2, lanes: 2, secret: "the secret", bound: { memory: 1024, passes: 8 } };
 
 // Each login has a name, options that change or extend SETTINGS, the answer, and the text. The option `password` is another
-// password. The answer is "new" for a new text, "stays" for the stored text, "refused" for a wrong password, or the code of an
-// error.
+// password. The answer is "new" for a new text, "stays" for the stored text, "kept" for a stored text that stays because no new
+// text can be made, "refused" for a wrong password, or the code of an error.
 export const LOG_INS = [
   ["the wanted settings", {}, "stays",
     "$argon2id$v=19$m=64,t=2,p=2$c29tZXNhbHRzb21lc2FsdA$tHbgSBTTv9s1/ighbL0Np0jpnnJ7EpS1OxR8QcU+eNk"],
   ["another password", { password: "pass word" }, "refused",
     "$argon2id$v=19$m=64,t=2,p=2$c29tZXNhbHRzb21lc2FsdA$tHbgSBTTv9s1/ighbL0Np0jpnnJ7EpS1OxR8QcU+eNk"],
+  ["an empty password", { password: "" }, "stays",
+    "$argon2id$v=19$m=64,t=2,p=2$c29tZXNhbHRzb21lc2FsdA$aaEu+reRXLaMzbNU4cC7UhyIhMNikkdzffXD6fbcSHk"],
+  ["an empty password, and fewer passes", { password: "" }, "new",
+    "$argon2id$v=19$m=64,t=1,p=2$c29tZXNhbHRzb21lc2FsdA$iolidzjP4kU2SPBo2ravoypJCVboJX2Rb9To4mNMmo0"],
+  ["an empty password, and the old secret", { password: "", oldSecret: "the old secret" }, "new",
+    "$argon2id$v=19$m=64,t=2,p=2$c29tZXNhbHRzb21lc2FsdA$LDii1J5PVm+1Itm8E63/mjYIyxHD7V4oxucV3oPfAGI"],
+  ["an empty password in place of another", { password: "" }, "refused",
+    "$argon2id$v=19$m=64,t=2,p=2$c29tZXNhbHRzb21lc2FsdA$tHbgSBTTv9s1/ighbL0Np0jpnnJ7EpS1OxR8QcU+eNk"],
   ["less memory", {}, "new",
     "$argon2id$v=19$m=56,t=2,p=2$c29tZXNhbHRzb21lc2FsdA$shhSr/2IgqxHFRTkSyrhKrpH6MCZW6NH6XQILQaIuH8"],
   ["fewer passes", {}, "new",
+    "$argon2id$v=19$m=64,t=1,p=2$c29tZXNhbHRzb21lc2FsdA$F1nlQrbgJ6kxLBW/8oQc5tOgP/KwHEZeST47/qd1lY8"],
+  ["fewer passes, and another password", { password: "pass word" }, "refused",
     "$argon2id$v=19$m=64,t=1,p=2$c29tZXNhbHRzb21lc2FsdA$F1nlQrbgJ6kxLBW/8oQc5tOgP/KwHEZeST47/qd1lY8"],
   ["fewer lanes", {}, "new",
     "$argon2id$v=19$m=64,t=2,p=1$c29tZXNhbHRzb21lc2FsdA$wieVuqQILRES5lPXACsQN0QaC1RcnN/QgtkZp+rC2sI"],
@@ -90,9 +100,9 @@ export const LOG_INS = [
     "$argon2id$v=19$m=64,t=2,p=2$c29tZXNhbHRzb21lc2FsdA$74OngZtJGQjqs7V/uU7paJbTlYkd22hW13uIAeYiMdY"],
   ["no secret any more", { oldSecret: "the old secret", secret: "" }, "new",
     "$argon2id$v=19$m=64,t=2,p=2$c29tZXNhbHRzb21lc2FsdA$QilSbJq/DZYKk4t1DccBr1CQ4HA63HJ9Id7Tleq+WB0"],
-  ["no memory for a new text", { memory: 4294967295 }, "stays",
+  ["no memory for a new text", { memory: 4294967295, bound: { memory: 4294967295 } }, "kept",
     "$argon2id$v=19$m=64,t=1,p=2$c29tZXNhbHRzb21lc2FsdA$F1nlQrbgJ6kxLBW/8oQc5tOgP/KwHEZeST47/qd1lY8"],
-  ["no memory for a new text under the secret", { oldSecret: "the old secret", memory: 4294967295 }, "stays",
+  ["no memory under the secret", { oldSecret: "the old secret", memory: 4294967295, bound: { memory: 4294967295 } }, "kept",
     "$argon2id$v=19$m=64,t=2,p=2$c29tZXNhbHRzb21lc2FsdA$QilSbJq/DZYKk4t1DccBr1CQ4HA63HJ9Id7Tleq+WB0"],
   ["above the bound", {}, "ABOVE_BOUND",
     "$argon2id$v=19$m=1025,t=2,p=2$c29tZXNhbHRzb21lc2FsdA$D2LVXLQpEMpuHFRh38szwgm1hxAxbWJmYsbFj/0m+Ok"],
@@ -112,6 +122,20 @@ export const LOG_INS = [
     "$argon2id$v=19$m=64,t=2,p=2$c29tZXNhbHRzb21lc2FsdA$tHbgSBTTv9s1/ighbL0Np0jpnnJ7EpS1OxR8QcU+eNk"],
   ["settings without a pass", { passes: 0 }, "PASSES_TOO_FEW",
     ""],
-  ["settings with a hash that no text has", { length: 65, password: "pass word" }, "OUTPUT_TOO_LONG",
+  ["settings with a hash that no text has", { length: 65, bound: { maxLength: 65 }, password: "pass word" }, "OUTPUT_TOO_LONG",
+    "$argon2id$v=19$m=64,t=2,p=2$c29tZXNhbHRzb21lc2FsdA$tHbgSBTTv9s1/ighbL0Np0jpnnJ7EpS1OxR8QcU+eNk"],
+  ["settings with more memory than the bound", { memory: 1025 }, "WANTED_OUT_OF_BOUND",
+    "$argon2id$v=19$m=64,t=2,p=2$c29tZXNhbHRzb21lc2FsdA$tHbgSBTTv9s1/ighbL0Np0jpnnJ7EpS1OxR8QcU+eNk"],
+  ["settings above the bound, and another password", { memory: 1025, password: "pass word" }, "WANTED_OUT_OF_BOUND",
+    "$argon2id$v=19$m=64,t=2,p=2$c29tZXNhbHRzb21lc2FsdA$tHbgSBTTv9s1/ighbL0Np0jpnnJ7EpS1OxR8QcU+eNk"],
+  ["settings with more passes than the bound, and no text", { passes: 9 }, "WANTED_OUT_OF_BOUND",
+    ""],
+  ["settings with more lanes than the bound", { lanes: 3, bound: { lanes: 2 } }, "WANTED_OUT_OF_BOUND",
+    "$argon2id$v=19$m=64,t=2,p=2$c29tZXNhbHRzb21lc2FsdA$tHbgSBTTv9s1/ighbL0Np0jpnnJ7EpS1OxR8QcU+eNk"],
+  ["settings with a shorter hash than the bound allows", { length: 15 }, "WANTED_OUT_OF_BOUND",
+    "$argon2id$v=19$m=64,t=2,p=2$c29tZXNhbHRzb21lc2FsdA$tHbgSBTTv9s1/ighbL0Np0jpnnJ7EpS1OxR8QcU+eNk"],
+  ["settings with a longer hash than the bound allows", { length: 65 }, "WANTED_OUT_OF_BOUND",
+    "$argon2id$v=19$m=64,t=2,p=2$c29tZXNhbHRzb21lc2FsdA$tHbgSBTTv9s1/ighbL0Np0jpnnJ7EpS1OxR8QcU+eNk"],
+  ["settings above the bound that are not valid", { memory: 1025, passes: 0 }, "WANTED_OUT_OF_BOUND",
     "$argon2id$v=19$m=64,t=2,p=2$c29tZXNhbHRzb21lc2FsdA$tHbgSBTTv9s1/ighbL0Np0jpnnJ7EpS1OxR8QcU+eNk"],
 ];

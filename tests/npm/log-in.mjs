@@ -9,6 +9,45 @@ function nameOf(answer) {
   return answer.hash === null ? "stays" : "new";
 }
 
+// Returns the options and the words of a login of LOG_INS.
+function wordsOf([, { password = PASSWORD, ...options }, , text]) {
+  return [text, password, { ...SETTINGS, ...options }];
+}
+
+// Calls a function while a function of an object is replaced.
+function replacing(object, name, value, body) {
+  const own = Object.getOwnPropertyDescriptor(object, name);
+  Object.defineProperty(object, name, { configurable: true, writable: true, value });
+  try {
+    return body();
+  } finally {
+    if (own) Object.defineProperty(object, name, own);
+    else delete object[name];
+  }
+}
+
+// Calls a function while the request for memory with this number, from 0 on, is refused. Returns its answer, and how many
+// requests were made.
+function refusing(at, body) {
+  const { Instance, Memory } = WebAssembly;
+  const { grow } = Memory.prototype;
+  let requests = 0;
+  const request = () => {
+    if (requests++ === at) throw new RangeError("refused");
+  };
+  const growing = function (pages) {
+    request();
+    return grow.call(this, pages);
+  };
+  // (this is a function, because it replaces a constructor)
+  const making = function (...words) {
+    request();
+    return new Instance(...words);
+  };
+  const answer = replacing(Memory.prototype, "grow", growing, () => replacing(WebAssembly, "Instance", making, body));
+  return { answer, requests };
+}
+
 /** Changes the secret of a hundred users while they log in. `argon2` is an Argon2, a worker or a pool. */
 export async function tryRotation(argon2) {
   const costs = { memory: 16, passes: 1 };
@@ -45,25 +84,59 @@ export async function tryRotation(argon2) {
 
 export const LOG_IN_TESTS = {
   "log-ins by texts of the model": async ({ argon2, Argon2Error }) => {
-    for (const [what, { password = PASSWORD, ...options }, wanted, text] of LOG_INS) {
-      const { oldSecret, bound, ...settings } = { ...SETTINGS, ...options };
-      const logIn = () => argon2.logIn(text, password, { ...SETTINGS, ...options });
+    for (const it of LOG_INS) {
+      const [what, , wanted] = it;
+      const [text, password, options] = wordsOf(it);
+      const { oldSecret, bound, ...settings } = options;
+      const logIn = () => argon2.logIn(text, password, options);
       if (/^[A-Z]/.test(wanted)) {
         const error = await thrown(logIn);
         check(error instanceof Argon2Error && error.code === wanted, what, String(error));
         continue;
       }
       const answer = logIn();
-      check(nameOf(answer) === wanted, what, answer);
+      check(nameOf(answer) === (wanted === "kept" ? "stays" : wanted), what, answer);
       if (wanted !== "refused") check(Object.keys(answer).join() === "hash", what, answer);
       check(argon2.verify(text, password, { secret: settings.secret, oldSecret, bound }) === (wanted !== "refused"), what);
+      const isDue = wanted === "new" || wanted === "kept";
+      const isBySecret = argon2.verify(text, password, { secret: settings.secret, bound });
+      if (isBySecret) check(argon2.isWeaker(text, settings) === isDue, what, "isWeaker");
       if (wanted !== "new") continue;
+      check(!argon2.isWeaker(answer.hash, settings), what, answer);
       check(!argon2.needsRehash(answer.hash, settings) && argon2.parse(answer.hash).salt.length === 16, what, answer);
       check(argon2.verify(answer.hash, password, { secret: settings.secret }), what, answer);
       check(!argon2.verify(answer.hash, password, { secret: `${settings.secret} ` }), what, answer);
-      check(nameOf(argon2.logIn(answer.hash, password, { ...SETTINGS, ...options })) === "stays", what, answer);
+      check(nameOf(argon2.logIn(answer.hash, password, options)) === "stays", what, answer);
     }
-    check(LOG_INS.length > 50);
+    check(LOG_INS.length > 60);
+  },
+
+  "an accepted log-in keeps the stored text if the system gives no random bytes": ({ argon2 }) => {
+    const renewed = LOG_INS.filter(([, , wanted]) => wanted === "new");
+    const refuse = () => {
+      throw new DOMException("refused", "OperationError");
+    };
+    const answers = replacing(crypto, "getRandomValues", refuse, () => renewed.map((it) => argon2.logIn(...wordsOf(it))));
+    check(answers.length > 20 && answers.every((it) => nameOf(it) === "stays"), answers);
+    check(nameOf(argon2.logIn(...wordsOf(renewed[0]))) === "new");
+  },
+
+  "each request for memory of a log-in is refused in turn": ({ Argon2 }, module) => {
+    const [text, password, options] = wordsOf(LOG_INS.find(([what]) => what === "fewer passes"));
+    const names = [];
+    const logIn = () => {
+      try {
+        return nameOf(new Argon2(module).logIn(text, password, { ...options, memory: 1024 }));
+      } catch ({ code }) {
+        return code;
+      }
+    };
+    for (let at = 0, isRefused = true; isRefused; at++) {
+      const { answer, requests } = refusing(at, logIn);
+      names.push(answer);
+      isRefused = requests > at;
+    }
+    check(/^(OUT_OF_MEMORY ){2,}(stays )+new$/.test(names.join(" ")), names);
   },
 
   "log-ins with the default settings": ({ argon2 }) => {

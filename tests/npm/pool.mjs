@@ -144,11 +144,12 @@ export function poolTests({ createPool, PoolError, Pool, Calls, Argon2Error }, m
       check((await statesOf(calls)) === "done done");
     },
 
-    "a pool: needsRehash and parse need no worker": async () => {
+    "a pool: needsRehash, isWeaker and parse need no worker": async () => {
       const { workers, pool } = make({ size: 1, maxQueued: 0 });
       const waiting = pool.hash("1");
       const text = "$argon2id$v=19$m=8,t=1,p=1$c29tZXNhbHQ$LVJKYEkaeNsu5UCkG00QmN9KvYwrpueSxItaCk3nAjU";
       check((await pool.needsRehash(text)) && !(await pool.needsRehash(text, SMALL)) && (await pool.parse(text)).memory === 8);
+      check((await pool.isWeaker(text)) && !(await pool.isWeaker(text, SMALL)));
       check((await thrown(() => pool.parse("x"))).code === "TEXT_INVALID");
       check(workers.length === 1 && workers[0].posted.length === 1 && (await statesOf([waiting])) === "waits");
     },
@@ -158,8 +159,8 @@ export function poolTests({ createPool, PoolError, Pool, Calls, Argon2Error }, m
       const calls = ["1", "2", "3", "4"].map((it) => pool.hash(it));
       const closing = pool.close();
       check(pool.close() === closing);
-      const later = [pool.hash("5"), pool.needsRehash("x"), pool.parse("x")];
-      check((await statesOf([...calls, ...later, closing])) === `${"waits ".repeat(4)}${"POOL_CLOSED ".repeat(3)}waits`);
+      const later = [pool.hash("5"), pool.needsRehash("x"), pool.isWeaker("x"), pool.parse("x")];
+      check((await statesOf([...calls, ...later, closing])) === `${"waits ".repeat(4)}${"POOL_CLOSED ".repeat(4)}waits`);
       check(isRefused(await thrown(() => later[0]), "POOL_CLOSED"));
       for (const it of [workers[0], workers[1], workers[0]]) {
         it.answer("a");

@@ -13,6 +13,8 @@ const OF_ABC = "$argon2id$v=19$m=8,t=1,p=1$c29tZXNhbHQ$LVJKYEkaeNsu5UCkG00QmN9Kv
 const OF_SECRET =
   "$argon2id$v=19$m=64,t=2,p=2,keyid=a2V5IDE,data=c29tZSBkYXRh$c29tZXNhbHQ$8Fe4gWVJpEPVFv1y5tDY+m6T9i6mEDkkKNQBGzcGzH8";
 const OF_OLD_SECRET = "$argon2id$v=19$m=64,t=2,p=2$c29tZXNhbHQ$TIwxZJX/u/uyFcujYXWbkdtyc4CJCdkl+/isYF6xVj0";
+// The model made this text for the password of no bytes.
+const OF_EMPTY = "$argon2id$v=19$m=64,t=2,p=2$c29tZXNhbHRzb21lc2FsdA$aaEu+reRXLaMzbNU4cC7UhyIhMNikkdzffXD6fbcSHk";
 // Debian's command argon2 made this text for `password`, with the default costs of the npm package argon2.
 const OF_REFERENCE = "$argon2id$v=19$m=65536,t=3,p=4$c29tZXNhbHRzb21lc2FsdA$gduXp+Z6iReEolmbyHn5V8s1EtJzmEvZfYoY/Fn/AeI";
 const SMALL = { memory: 8, passes: 1 };
@@ -73,16 +75,21 @@ const TESTS = {
     }
     check(texts[0] !== texts[1]);
     check(argon2.verify(OF_REFERENCE, "password") && !argon2.verify(OF_REFERENCE, "Password"));
+    const secret = "the secret";
+    check(argon2.hash("", { memory: 64, lanes: 2, secret, salt: "somesaltsomesalt" }) === OF_EMPTY);
+    check(argon2.verify(OF_EMPTY, "", { secret }) && !argon2.verify(OF_EMPTY, "\0", { secret }));
   },
 
   "refusals by name": async ({ argon2, Argon2Error }) => {
+    const comparing = (options) => [() => argon2.needsRehash(OF_ABC, options), () => argon2.isWeaker(OF_ABC, options)];
     const raw = (options, salt = SALT) => () => argon2.raw("x", salt, options);
     const hash = (options) => () => argon2.hash("x", options);
     const verify = (text, bound = {}) => () => argon2.verify(text, "abc", { bound });
+    const logIn = (options) => () => argon2.logIn(OF_ABC, "abc", options);
     for (const [wanted, ...calls] of [
       ["SALT_TOO_SHORT", raw({}, "short"), hash({ salt: "short" })],
       ["SALT_TOO_LONG", hash({ salt: new Uint8Array(49) })],
-      ["PASSES_TOO_FEW", raw({ passes: 0 }), hash({ passes: 0 }), () => argon2.needsRehash(OF_ABC, { passes: 0 })],
+      ["PASSES_TOO_FEW", raw({ passes: 0 }), hash({ passes: 0 }), ...comparing({ passes: 0 })],
       ["MEMORY_TOO_LITTLE", raw({ memory: 7 }), raw({ memory: 15, lanes: 2 }), hash({ memory: 0 })],
       ["LANES_TOO_FEW", raw({ lanes: 0 })],
       ["LANES_TOO_MANY", raw({ memory: 2 ** 28, lanes: 2 ** 24 })],
@@ -96,10 +103,12 @@ const TESTS = {
       // (it would fit into 4 GiB, but not without the last page)
       ["OUT_OF_MEMORY", raw({ ...SMALL, length: 2 ** 32 - 2 ** 17 })],
       ["TEXT_INVALID", verify("é"), verify(`${OF_ABC}\0`), verify(""), () => argon2.needsRehash("x")],
-      ["TEXT_INVALID", () => argon2.parse(`${OF_ABC}=`)],
+      ["TEXT_INVALID", () => argon2.isWeaker("x"), () => argon2.parse(`${OF_ABC}=`)],
       ["TEXT_INCOMPLETE", verify(OF_ABC.slice(0, OF_ABC.lastIndexOf("$")))],
       ["ABOVE_BOUND", verify(OF_ABC.replace("m=8", "m=262145")), verify(OF_ABC.replace("t=1", "t=65"))],
       ["ABOVE_BOUND", verify(OF_ABC.replace("m=8,t=1,p=1", "m=520,t=1,p=65")), verify(OF_ABC, { memory: 7 })],
+      ["WANTED_OUT_OF_BOUND", logIn({ memory: 262145 }), logIn({ passes: 65 }), logIn({ lanes: 65, memory: 520 })],
+      ["WANTED_OUT_OF_BOUND", logIn({ length: 15 }), logIn({ length: 65 }), logIn({ bound: { memory: 19455 } })],
       ["OUTPUT_OUT_OF_BOUND", verify(OF_ABC.slice(0, -36)), verify(OF_ABC, { maxLength: 31 })],
     ]) {
       for (const call of calls) {
@@ -143,6 +152,7 @@ const TESTS = {
         () => argon2.verify(OF_ABC, "abc", options),
         () => argon2.verify(OF_ABC, "abc", { bound: options }),
         () => argon2.needsRehash(OF_ABC, options),
+        () => argon2.isWeaker(OF_ABC, options),
         () => argon2.raw("x", SALT, options),
         () => argon2.rawAsync("x", SALT, options),
       ]) {
@@ -314,7 +324,8 @@ export async function tryWorker(start) {
   const text = await worker.hash("x", { memory: 64 });
   check((await worker.verify(text, "x")) && !(await worker.verify(text, "y")) && (await worker.needsRehash(text)), text);
   check((await worker.logIn(text, "y")) === null && (await worker.logIn(text, "x", { memory: 64 })).hash === null, text);
-  check(!(await worker.needsRehash((await worker.logIn(text, "x")).hash)), text);
+  const { hash: fresh } = await worker.logIn(text, "x");
+  check(!(await worker.needsRehash(fresh)) && !(await worker.isWeaker(fresh)) && (await worker.isWeaker(text)), text, fresh);
   check((await worker.parse(text)).memory === 64);
   const tags = await Promise.all([4, 5, 6].map((length) => worker.raw("x", "somesalt", { length })));
   check(tags.map((it) => it.length).join() === "4,5,6", tags);

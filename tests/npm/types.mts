@@ -13,7 +13,7 @@ const accepts: boolean = argon2.verify(text, new ArrayBuffer(8), { secret: "secr
 const logInOptions: LogInOptions = { ...settings, oldSecret: "old secret", bound };
 const logIn: LogInAnswer | null = argon2.logIn(text, "password", logInOptions);
 const stored: string = logIn?.hash ?? text;
-const isOld: boolean = argon2.needsRehash(text, settings);
+const isOld: boolean = argon2.needsRehash(text, settings) || argon2.isWeaker(text, settings);
 const { version, salt }: { version: 16 | 19; salt: Uint8Array } = argon2.parse(text);
 const key: Uint8Array = await argon2.rawAsync("password", salt, {
   passes: 3,
@@ -32,7 +32,7 @@ const answers: [string, boolean, LogInAnswer | null, Uint8Array] = [
 worker.terminate();
 
 const pool: Argon2Pool = createPool({ size: 4, maxQueued: 0, idleTimeout: 1000 });
-const isCurrent: boolean = !(await pool.needsRehash(await pool.hash("password", settings)));
+const isCurrent: boolean = !(await pool.isWeaker(await pool.hash("password", settings), settings));
 const accepted: LogInAnswer | null = await pool.logIn(text, "password", logInOptions);
 const closing: Promise<void> = pool.close();
 
