@@ -40,7 +40,7 @@ impl Bound {
         sys::verify(argon2, None, password, text, self).map(drop)
     }
 
-    /// Verifies a password while the secret changes. If the stored hash does not accept the password under the secret of
+    /// Verifies a password while the secret changes, like [`Argon2::log_in`], which also makes the new hash. If the stored hash does not accept the password under the secret of
     /// `argon2`, this tries `old_secret`. An old secret of no bytes is for hashes that were stored without a secret. Returns
     /// whether the old secret accepted the password. In that case store a new hash.
     ///
@@ -63,6 +63,8 @@ impl Bound {
 pub enum BoundError {
     /// The stored hash asks for more than the bound.
     TooExpensive,
+    /// New hashes ask for more than the bound, whatever the stored hash and the password are.
+    WantedTooExpensive,
     /// Reading the stored hash, or verifying the password by it, fails with this error.
     Refused(password_hash::Error),
 }
@@ -71,6 +73,7 @@ impl Display for BoundError {
     fn fmt(&self, f: &mut fmt::Formatter<'_>) -> fmt::Result {
         match self {
             BoundError::TooExpensive => f.write_str("text asks for more than the bound"),
+            BoundError::WantedTooExpensive => f.write_str("new hashes ask for more than the bound"),
             BoundError::Refused(error) => error.fmt(f),
         }
     }

@@ -114,8 +114,10 @@ impl<'key> Argon2<'key> {
     }
 
     /// Returns whether the stored hash `text` shows another algorithm, version, parameter or length of its tag than a new hash of
-    /// this hasher. The call does not look at the secret. If a stored hash accepts a password and this returns true, store a new
-    /// hash.
+    /// this hasher. The call does not look at the secret.
+    ///
+    /// This is for reports, for example of which stored hashes do not have the settings of today. It is also true for a stored hash
+    /// that is stronger. To decide which hashes to replace, call [`Argon2::log_in`] or [`Argon2::is_weaker`].
     ///
     /// # Errors
     /// The error of reading the stored hash or its settings, as for `verify_password`.
@@ -214,7 +216,9 @@ impl PasswordVerifier<PasswordHash> for Argon2<'_> {
         match Bound::LARGEST.verify(self, password, &hash.to_string()) {
             Ok(()) => Ok(()),
             Err(BoundError::Refused(error)) => Err(error),
-            Err(BoundError::TooExpensive) => unreachable!("no cost is above the largest"),
+            Err(BoundError::TooExpensive | BoundError::WantedTooExpensive) => {
+                unreachable!("no cost is above the largest")
+            }
         }
     }
 }

@@ -11,6 +11,7 @@ mod bytes;
 mod context;
 mod error;
 pub mod kdf;
+mod login;
 mod params;
 pub mod password_hash;
 mod sys;
@@ -22,6 +23,7 @@ pub use bound::Bound;
 pub use context::Argon2;
 pub use error::{B64Error, Error, Result};
 pub use kdf::{Kdf, Pbkdf};
+pub use login::LoggedIn;
 pub use params::{AssociatedData, KeyId, Params, ParamsBuilder};
 pub use password_hash::{
     CustomizedPasswordHasher, PasswordHasher, PasswordVerifier, phc::PasswordHash,

@@ -3,6 +3,7 @@
 #![allow(unsafe_code)]
 
 use crate::bound::{Bound, BoundError};
+use crate::login::LoggedIn;
 use crate::password_hash;
 use crate::{Algorithm, Argon2, Block, Error, Result, Version};
 use std::ffi::{CStr, c_char, c_int};
@@ -79,17 +80,18 @@ pub(crate) struct Shown<'text> {
     code: c_int,
 }
 
-/// Names the codes of the header, for the test that reads it too.
-macro_rules! codes {
-    ($($name:ident = $code:literal,)*) => {
-        $(const $name: c_int = $code;)*
+/// Names numbers of the header, for the test that reads the header too.
+macro_rules! numbers {
+    ($list:ident: $type:ty, $($name:ident = $number:literal,)*) => {
+        $(const $name: $type = $number;)*
 
         #[cfg(test)]
-        const CODES: &[(&str, c_int)] = &[$((stringify!($name), $code)),*];
+        const $list: &[(&str, $type)] = &[$((stringify!($name), $number)),*];
     };
 }
 
-codes! {
+numbers! {
+    CODES: c_int,
     OK = 0,
     OUTPUT_TOO_SHORT = -2,
     OUTPUT_TOO_LONG = -3,
@@ -109,6 +111,7 @@ codes! {
     VERSION = -71,
     BLOCKS_TOO_FEW = -73,
     NO_RANDOM = -74,
+    WANTED_OUT_OF_BOUND = -75,
     TEXT_INVALID = -80,
     TEXT_MEMORY = -81,
     TEXT_PASSES = -82,
@@ -120,11 +123,14 @@ codes! {
     ABOVE_BOUND = -88,
 }
 
+numbers! {
+    OUTCOMES: c_int,
+    CURRENT = 0,
+    RENEWED = 1,
+}
+
 /// The room for a stored hash with its zero byte.
 const TEXT_SIZE: usize = 327;
-
-/// The answer of `argon2p_needs_rehash` for a stored hash with the wanted settings.
-const CURRENT: c_int = 0;
 
 /// The most threads of a call; 0 is as many as lanes.
 const THREADS: u32 = if cfg!(feature = "parallel") { 0 } else { 1 };
@@ -169,8 +175,25 @@ unsafe extern "C" {
         pwd_len: usize,
         by_old_secret: *mut c_int,
     ) -> c_int;
+    fn argon2p_log_in(
+        wanted: *const Settings,
+        verifier: *const Verifier,
+        text: *const u8,
+        text_len: usize,
+        pwd: *const u8,
+        pwd_len: usize,
+        fresh: *mut u8,
+        room: usize,
+        outcome: *mut c_int,
+    ) -> c_int;
     fn argon2p_parse(text: *const u8, text_len: usize, shown: *mut ShownParts) -> c_int;
     fn argon2p_needs_rehash(
+        wanted: *const Settings,
+        text: *const u8,
+        text_len: usize,
+        answer: *mut c_int,
+    ) -> c_int;
+    fn argon2p_is_weaker(
         wanted: *const Settings,
         text: *const u8,
         text_len: usize,
@@ -225,6 +248,27 @@ impl Settings {
             data_len: 0,
             keyid: ptr::null(),
             keyid_len: 0,
+        }
+    }
+}
+
+impl Verifier {
+    /// Returns what verifies under the secret of a hasher and an old secret, with pointers to both.
+    fn of(argon2: &Argon2<'_>, old_secret: Option<&[u8]>, bound: &Bound) -> Self {
+        Self {
+            size: size_of::<Self>(),
+            m_cost: bound.m_cost,
+            t_cost: bound.t_cost,
+            p_cost: bound.p_cost,
+            min_output: 0,
+            max_output: u32::MAX,
+            threads: THREADS,
+            has_old_secret: old_secret.is_some().into(),
+            reserved: 0,
+            secret: argon2.secret.map_or(ptr::null(), <[u8]>::as_ptr),
+            secret_len: argon2.secret.map_or(0, <[u8]>::len),
+            old_secret: old_secret.map_or(ptr::null(), <[u8]>::as_ptr),
+            old_secret_len: old_secret.map_or(0, <[u8]>::len),
         }
     }
 }
@@ -356,12 +400,15 @@ pub(crate) fn encode(
 fn text_of(call: impl FnOnce(*mut u8, usize) -> c_int) -> password_hash::Result<String> {
     let mut room = [0; TEXT_SIZE];
     match call(room.as_mut_ptr(), room.len()) {
-        OK => {
-            let text = room.split(|byte| *byte == 0).next().unwrap_or_default();
-            Ok(String::from_utf8_lossy(text).into_owned())
-        }
+        OK => Ok(text_in(&room)),
         code => Err(refusal(code)),
     }
+}
+
+/// Returns the stored hash before the zero byte in its room.
+fn text_in(room: &[u8]) -> String {
+    let text = room.split(|byte| *byte == 0).next().unwrap_or_default();
+    String::from_utf8_lossy(text).into_owned()
 }
 
 /// Verifies a password by a stored hash, which must ask for no more than a bound. Returns whether it was the old secret, and not
@@ -373,27 +420,12 @@ pub(crate) fn verify(
     text: &str,
     bound: &Bound,
 ) -> std::result::Result<bool, BoundError> {
-    let verifier = Verifier {
-        size: size_of::<Verifier>(),
-        m_cost: bound.m_cost,
-        t_cost: bound.t_cost,
-        p_cost: bound.p_cost,
-        min_output: 0,
-        max_output: u32::MAX,
-        threads: THREADS,
-        has_old_secret: old_secret.is_some().into(),
-        reserved: 0,
-        secret: argon2.secret.map_or(ptr::null(), <[u8]>::as_ptr),
-        secret_len: argon2.secret.map_or(0, <[u8]>::len),
-        old_secret: old_secret.map_or(ptr::null(), <[u8]>::as_ptr),
-        old_secret_len: old_secret.map_or(0, <[u8]>::len),
-    };
     let mut by_old_secret = 0;
     // SAFETY: each pointer goes with the length of what it points to, or is null with length 0. Only this call borrows the number
     // that it writes.
     let code = unsafe {
         argon2p_verify(
-            &raw const verifier,
+            &Verifier::of(argon2, old_secret, bound),
             text.as_ptr(),
             text.len(),
             pwd.as_ptr(),
@@ -403,17 +435,61 @@ pub(crate) fn verify(
     };
     match code {
         OK => Ok(by_old_secret != 0),
-        ABOVE_BOUND => Err(BoundError::TooExpensive),
-        code => Err(refusal(code).into()),
+        code => Err(bound_refusal(code)),
     }
 }
 
+/// Verifies like `verify`, and makes a new hash under the settings of the hasher if one is due.
+pub(crate) fn log_in(
+    argon2: &Argon2<'_>,
+    old_secret: Option<&[u8]>,
+    pwd: &[u8],
+    text: &str,
+    bound: &Bound,
+) -> std::result::Result<LoggedIn, BoundError> {
+    let mut outcome = CURRENT;
+    let mut fresh = [0; TEXT_SIZE];
+    // SAFETY: as in `verify`. Only this call borrows the bytes and the number that it writes.
+    let code = unsafe {
+        argon2p_log_in(
+            &Settings::of(argon2),
+            &Verifier::of(argon2, old_secret, bound),
+            text.as_ptr(),
+            text.len(),
+            pwd.as_ptr(),
+            pwd.len(),
+            fresh.as_mut_ptr(),
+            fresh.len(),
+            &raw mut outcome,
+        )
+    };
+    match (code, outcome) {
+        (OK, CURRENT) => Ok(LoggedIn::Current),
+        (OK, RENEWED) => Ok(LoggedIn::Renewed(text_in(&fresh))),
+        (OK, _) => Ok(LoggedIn::Kept),
+        (code, _) => Err(bound_refusal(code)),
+    }
+}
+
+/// A call of the library that compares a stored hash with settings.
+type Comparison = unsafe extern "C" fn(*const Settings, *const u8, usize, *mut c_int) -> c_int;
+
 /// Returns whether a stored hash shows other settings than the settings of a hasher.
 pub(crate) fn needs_rehash(argon2: &Argon2<'_>, text: &str) -> password_hash::Result<bool> {
-    let mut answer = CURRENT;
+    compare(argon2p_needs_rehash, argon2, text)
+}
+
+/// Returns whether a stored hash is weaker than new hashes of a hasher.
+pub(crate) fn is_weaker(argon2: &Argon2<'_>, text: &str) -> password_hash::Result<bool> {
+    compare(argon2p_is_weaker, argon2, text)
+}
+
+/// Returns whether a call answers with another number than 0.
+fn compare(call: Comparison, argon2: &Argon2<'_>, text: &str) -> password_hash::Result<bool> {
+    let mut answer = 0;
     // SAFETY: each pointer goes with the length of what it points to. Only this call borrows the number that it writes.
     let code = unsafe {
-        argon2p_needs_rehash(
+        call(
             &Settings::of(argon2),
             text.as_ptr(),
             text.len(),
@@ -421,7 +497,7 @@ pub(crate) fn needs_rehash(argon2: &Argon2<'_>, text: &str) -> password_hash::Re
         )
     };
     match code {
-        OK => Ok(answer != CURRENT),
+        OK => Ok(answer != 0),
         code => Err(refusal(code)),
     }
 }
@@ -538,6 +614,15 @@ fn refusal(code: c_int) -> password_hash::Error {
     }
 }
 
+/// Returns the error of a stored hash that is verified within a bound, for a code.
+fn bound_refusal(code: c_int) -> BoundError {
+    match code {
+        ABOVE_BOUND => BoundError::TooExpensive,
+        WANTED_OUT_OF_BOUND => BoundError::WantedTooExpensive,
+        code => refusal(code).into(),
+    }
+}
+
 /// Ends a call that was refused by a code which the library of this package never returns for it.
 fn another_library(code: c_int) -> ! {
     // SAFETY: the call accepts any number, and returns a constant string that ends with a zero byte.
@@ -550,9 +635,9 @@ mod tests {
     use super::*;
     use std::path::Path;
 
-    /// Each code has the number that the header gives it. A package outside the repository has no header.
+    /// Each number is the number of the header. A package outside the repository has no header.
     #[test]
-    fn codes_are_those_of_the_header() {
+    fn numbers_are_those_of_the_header() {
         let header = Path::new(env!("CARGO_MANIFEST_DIR")).join("../c/argon2_phc.h");
         let Ok(header) = std::fs::read_to_string(header) else {
             return;
@@ -563,7 +648,14 @@ mod tests {
             let is_whole = |it: &str| !it.starts_with(|c: char| c.is_ascii_digit());
             assert!(ends.any(is_whole), "{line}");
         }
-        assert!(header.contains(&format!("ARGON2P_TEXT_SIZE {TEXT_SIZE} ")));
-        assert!(header.contains(&format!("ARGON2P_CURRENT {CURRENT} ")));
+        let check_define = |name: &str, number: &dyn ToString| {
+            let define = format!("#define ARGON2P_{name} {}", number.to_string());
+            let mut lines = header.lines().map(|it| it.split("/*").next().unwrap_or(it));
+            assert!(lines.any(|it| it.trim_end() == define), "{define}");
+        };
+        for (name, outcome) in OUTCOMES {
+            check_define(name, outcome);
+        }
+        check_define("TEXT_SIZE", &TEXT_SIZE);
     }
 }
