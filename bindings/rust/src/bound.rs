@@ -15,7 +15,18 @@ pub struct Bound {
     pub p_cost: u32,
 }
 
+/// The default bound of the library.
+impl Default for Bound {
+    fn default() -> Self {
+        Self::DEFAULT
+    }
+}
+
 impl Bound {
+    /// The default bound of the library, which has 2 GiB, 64 passes and 64 lanes. The most expensive stored hash within it needs
+    /// half a minute of a processor or more, so set what your own hashes need.
+    pub const DEFAULT: Self = sys::DEFAULT_BOUND;
+
     /// The bound that no stored hash is above.
     pub(crate) const LARGEST: Self = Self {
         m_cost: u32::MAX,

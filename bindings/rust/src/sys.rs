@@ -129,6 +129,20 @@ numbers! {
     RENEWED = 1,
 }
 
+numbers! {
+    BOUNDS: u32,
+    BOUND_MEMORY = 2_097_152,
+    BOUND_PASSES = 64,
+    BOUND_LANES = 64,
+}
+
+/// The bound that the library has by default.
+pub(crate) const DEFAULT_BOUND: Bound = Bound {
+    m_cost: BOUND_MEMORY,
+    t_cost: BOUND_PASSES,
+    p_cost: BOUND_LANES,
+};
+
 /// The room for a stored hash with its zero byte.
 const TEXT_SIZE: usize = 327;
 
@@ -655,6 +669,9 @@ mod tests {
         };
         for (name, outcome) in OUTCOMES {
             check_define(name, outcome);
+        }
+        for (name, most) in BOUNDS {
+            check_define(name, most);
         }
         check_define("TEXT_SIZE", &TEXT_SIZE);
     }

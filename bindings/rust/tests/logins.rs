@@ -134,6 +134,29 @@ fn a_weaker_hash_is_lower_shorter_or_of_another_kind() {
 }
 
 #[test]
+fn the_default_bound() {
+    let bound = Bound::default();
+    assert_eq!(
+        (bound.m_cost, bound.t_cost, bound.p_cost),
+        (2_097_152, 64, 64)
+    );
+    let wanted = hasher(64, 2, 2, None);
+    let within = |text: &str| bound.verify(&wanted, b"password", text);
+    assert_eq!(within(WANTED), Ok(()));
+    for (old, new) in [
+        ("m=64", "m=2097153"),
+        ("t=2", "t=65"),
+        ("m=64,t=2,p=2", "m=520,t=2,p=65"),
+    ] {
+        assert_eq!(
+            within(&WANTED.replace(old, new)),
+            Err(BoundError::TooExpensive),
+            "{new}"
+        );
+    }
+}
+
+#[test]
 fn an_empty_password_is_hashed_like_any_other() {
     let hash = hasher(64, 2, 2, None).hash_password_with_salt(b"", b"somesaltsomesalt");
     assert_eq!(hash.map(|it| it.to_string()), Ok(EMPTY.to_owned()));
