@@ -42,7 +42,9 @@ export const VECTOR_TESTS = {
 
   "the texts of argon2_verify.json": ({ argon2 }) => tryFile(argon2, "argon2_verify"),
 
-  "its texts that are accepted, read and made": async ({ argon2 }) => {
+  "the logins of argon2_login.json": ({ argon2 }) => tryFile(argon2, "argon2_login"),
+
+  "the texts of argon2_verify.json that are accepted, read and made": async ({ argon2 }) => {
     const isMade = ({ test: { result, flags } }) => result !== "invalid" && !["NoVersion", "OtherOrder"].some((it) => flags.includes(it));
     const accepted = (await casesOf("argon2_verify")).filter(isMade);
     for (const { test } of accepted) {

@@ -10,7 +10,7 @@ const argon2 = await load();
 const counts = { passed: 0, failed: 0 };
 let skipped = 0;
 
-for (const name of ["argon2_hash", "argon2_long_hash", "blake2b", "phc_argon2", "argon2_verify"]) {
+for (const name of ["argon2_hash", "argon2_long_hash", "blake2b", "phc_argon2", "argon2_verify", "argon2_login"]) {
   const { numberOfTests, testGroups } = JSON.parse(readFileSync(new URL(`../${name}.json`, import.meta.url), "utf8"));
   if (!(name in ANSWERS)) {
     skipped += numberOfTests;

@@ -19,6 +19,8 @@ const CODES = {
   MemoryTooLittle: "MEMORY_TOO_LITTLE",
   OutputTooShort: "OUTPUT_TOO_SHORT",
   PassesTooFew: "PASSES_TOO_FEW",
+  WantedAboveBound: "WANTED_OUT_OF_BOUND",
+  AboveBound: "ABOVE_BOUND",
 };
 const BOUND = { memory: 2 ** 32 - 1, passes: 2 ** 10, lanes: 2 ** 10, minLength: 4 };
 
@@ -66,5 +68,23 @@ export const ANSWERS = {
   argon2_verify(argon2, _, { text, password, secret, reason }) {
     const options = { secret: fromHex(secret), bound: BOUND };
     return { found: found(() => argon2.verify(text, fromHex(password), options)), wanted: reason ? CODES[reason] : true };
+  },
+
+  argon2_login(argon2, _, { wanted, bound, text, reason, weaker, due, ...fields }) {
+    const { m, t, p, keyid, data, ...kind } = wanted;
+    const settings = { ...kind, memory: m, passes: t, lanes: p, keyid: fromHex(keyid), data: fromHex(data) };
+    const secrets = { secret: fromHex(fields.secret), oldSecret: fields.oldSecret === null ? undefined : fromHex(fields.oldSecret) };
+    const options = { ...settings, ...secrets, bound: { memory: bound.m, passes: bound.t, lanes: bound.p, minLength: 4 } };
+    const logIn = (it) => argon2.logIn(it, fromHex(fields.password), options);
+    const outcome = () => {
+      const answer = logIn(text);
+      if (answer === null) return false;
+      if (answer.hash === null) return "current";
+      return logIn(answer.hash)?.hash === null ? "renewed" : "a new hash that is not current";
+    };
+    // (a text that is no hash of Argon2 is not compared)
+    const isWeaker = weaker === undefined ? undefined : found(() => argon2.isWeaker(text, settings));
+    const outcomes = [CODES[reason] ?? (due ? "renewed" : "current")].flat();
+    return { found: `${found(outcome)}, weaker: ${isWeaker}`, wanted: outcomes.map((it) => `${it}, weaker: ${weaker}`) };
   },
 };

@@ -65,6 +65,70 @@ fn verify(words: &[&str]) -> Result<String> {
     Ok("accepted".into())
 }
 
+/// The logins, which only this project's package has.
+#[cfg(feature = "login")]
+mod logins {
+    use super::{Result, bytes};
+    use argon2::{
+        Algorithm, Argon2, AssociatedData, Bound, KeyId, LoggedIn, ParamsBuilder, Version,
+    };
+
+    /// Makes a hasher of eight words and a secret.
+    fn hasher<'key>(words: &[&str], secret: &'key [u8]) -> Result<Argon2<'key>> {
+        let [algorithm, version, m, t, p, length, keyid, data] = words else {
+            return Err("eight words".into());
+        };
+        let params = ParamsBuilder::new()
+            .m_cost(m.parse()?)
+            .t_cost(t.parse()?)
+            .p_cost(p.parse()?)
+            .output_len(length.parse()?)
+            .keyid(KeyId::new(&bytes(keyid)?)?)
+            .data(AssociatedData::new(&bytes(data)?)?)
+            .build()?;
+        let version = Version::try_from(version.parse::<u32>()?)?;
+        let algorithm = Algorithm::new(algorithm)?;
+        Ok(Argon2::new_with_secret(secret, algorithm, version, params)?)
+    }
+
+    pub fn login(words: &[&str]) -> Result<String> {
+        let Some((settings, [m, t, p, secret, old_secret, text, password])) =
+            words.split_at_checked(8)
+        else {
+            return Err("fifteen words".into());
+        };
+        let (secret, old_secret) = (
+            bytes(secret)?,
+            (*old_secret != "none")
+                .then(|| bytes(old_secret))
+                .transpose()?,
+        );
+        let (text, password) = (String::from_utf8(bytes(text)?)?, bytes(password)?);
+        let bound = Bound {
+            m_cost: m.parse()?,
+            t_cost: t.parse()?,
+            p_cost: p.parse()?,
+        };
+        let argon2 = hasher(settings, &secret)?;
+        let log_in = |text: &str| argon2.log_in(&bound, old_secret.as_deref(), &password, text);
+        Ok(match log_in(&text)? {
+            LoggedIn::Current => "current",
+            LoggedIn::Kept => "kept",
+            LoggedIn::Renewed(fresh) if log_in(&fresh)? == LoggedIn::Current => "renewed",
+            LoggedIn::Renewed(_) => "a new hash that is not current",
+        }
+        .into())
+    }
+
+    pub fn weaker(words: &[&str]) -> Result<String> {
+        let Some((settings, [text])) = words.split_at_checked(8) else {
+            return Err("nine words".into());
+        };
+        let text = String::from_utf8(bytes(text)?)?;
+        Ok(hasher(settings, &[])?.is_weaker(&text)?.to_string())
+    }
+}
+
 fn main() -> Result<()> {
     for line in io::stdin().lock().lines() {
         let line = line?;
@@ -72,6 +136,10 @@ fn main() -> Result<()> {
         let answer = match words[0] {
             "hash" => hash(&words[1..]),
             "verify" => verify(&words[1..]),
+            #[cfg(feature = "login")]
+            "login" => logins::login(&words[1..]),
+            #[cfg(feature = "login")]
+            "weaker" => logins::weaker(&words[1..]),
             _ => Ok("unknown".into()),
         };
         println!(
