@@ -4,8 +4,8 @@
  *
  * How each command starts. The command's file contains the program as compiled for one or more levels of x86-64. This start
  * calls the program of the highest level that the processor has. Before the call it forbids core dumps, and sets a umask for
- * argon2-passwd, so that a new file is for its owner only. While the program runs, the start asks for huge pages, and hides
- * what is typed after a question.
+ * argon2-passwd, so that a new file is for its owner only. While the program runs, the start puts large memory into huge pages,
+ * and hides what is typed after a question.
  *
  * build/link compiles this file, and defines NAME as the command's name.
  */
@@ -36,17 +36,19 @@ extern ssize_t __wrap_write(int file, const void *bytes, size_t count);
 extern ssize_t __real_writev(int file, const struct iovec *parts, int count);
 extern ssize_t __wrap_writev(int file, const struct iovec *parts, int count);
 
-/* Allocates memory as malloc does. Memory of 2 MiB and more is in huge pages if the system has them: a large hash then has few page
- * faults. */
+/* Allocates memory as malloc does. Memory of 2 MiB and more fills whole huge pages if the system has them. A large hash then has
+ * few page faults, and each of its blocks begins on a line of the cache. */
 void *__wrap_malloc(size_t bytes)
 {
-    const uintptr_t page = 4096, huge = 2 << 20;
-    void *memory = __real_malloc(bytes);
+    const size_t huge = 2 << 20, whole = (bytes + huge - 1) & -huge;
+    void *memory;
 
-    if (memory != NULL && bytes >= huge) {
-        uintptr_t start = ((uintptr_t)memory + page - 1) & -page, end = ((uintptr_t)memory + bytes) & -page;
-        madvise((void *)start, end - start, MADV_HUGEPAGE);
-    }
+    /* (if the rounding overflows, malloc refuses the request) */
+    if (bytes < huge || whole < bytes)
+        return __real_malloc(bytes);
+    memory = aligned_alloc(huge, whole);
+    if (memory != NULL)
+        madvise(memory, whole, MADV_HUGEPAGE);
     return memory;
 }
 
