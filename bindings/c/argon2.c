@@ -44,12 +44,14 @@ int hash_on(const argon2_context *c, argon2_type type, uint8_t *out, block *memo
     const struct request request = requested(c, type);
     const uint32_t workers = worker_count(c);
     const size_t n = block_count(c);
+    const bool gives_back = wipes && is_given_back(n);
     int answer;
     if (workers > 1) {
-        answer = hash_in_threads(c, &request, out, memory, wipes, workers);
+        answer = hash_in_threads(c, &request, out, memory, wipes && !gives_back, workers);
+        if (gives_back) erase(c, memory, n / (4 * c->lanes)); /* the memory is laid out slice by slice */
     } else {
         answer = argon2_c_hash(&request, INPUTS(c), memory, n, out, c->outlen);
-        if (wipes) wipe(memory, n * sizeof(block));
+        if (wipes) erase(c, memory, n / c->lanes);
     }
     wipe_stack();
     return answer;

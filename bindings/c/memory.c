@@ -93,6 +93,42 @@ block *new_blocks(size_t n) {
     return (block *)at;
 }
 
+enum { BLOCKS_OF_PAGE = HUGE_PAGE / sizeof(block) };
+
+/* Returns whether `erase` gives pages of n blocks back to the system. */
+bool is_given_back(size_t n) {
+    return FLAG_clear_internal_memory == 1 && n >= MAPPED / sizeof(block);
+}
+
+/* Gives huge pages back to the system, and returns whether they then read as zeros. Locked memory can't be given back. Memory from
+ * a malloc of the program may be of a file, or shared with another process, and then it keeps its bytes. */
+static bool are_zeros_now(block *blocks, size_t n) {
+#ifdef MADV_DONTNEED
+    if (madvise(blocks, n * sizeof *blocks, MADV_DONTNEED) != 0) return false;
+#endif
+    for (size_t last = BLOCKS_OF_PAGE - 1; last < n; last += BLOCKS_OF_PAGE)
+        if (*(const volatile uint64_t *)&blocks[last].words[127] != 0) return false;
+    return true;
+}
+
+/* Erases the blocks of a hash. A lane begins `apart` blocks after the lane before it.
+ *
+ * From 32 MiB on, malloc maps new pages for each hash, and the system clears each page before a program gets it. So this function
+ * gives whole huge pages back to the system, and wipes only the blocks after them. Until the system uses a page again, the page
+ * has its bytes, which no program can read. After two passes or more, a block there depends on a whole pass before it. After one
+ * pass, the blocks in the first quarter of a lane depend only on the blocks before them in the same lane, so a guess could be
+ * compared with them quickly. These quarters are wiped first. */
+void erase(const argon2_context *c, block *blocks, size_t apart) {
+    const int error = errno;
+    const size_t n = block_count(c), quarter = n / (4 * c->lanes);
+    size_t given = is_given_back(n) ? n - n % BLOCKS_OF_PAGE : 0;
+    for (size_t lane = 0; given && c->t_cost == 1 && lane < c->lanes; lane++)
+        wipe(blocks + lane * apart, quarter * sizeof *blocks);
+    if (given && !are_zeros_now(blocks, given)) given = 0;
+    wipe(blocks + given, (n - given) * sizeof *blocks);
+    errno = error;
+}
+
 void free_blocks(block *blocks, size_t n) {
     uint8_t *given, *const at = (uint8_t *)blocks - sizeof given;
     advise(blocks, n, MADV_NOHUGEPAGE);

@@ -117,6 +117,8 @@ void wipe(void *at, size_t n);
 void wipe_and_free(uint8_t *at, size_t n);
 void wipe_stack(void);
 block *new_blocks(size_t n);
+bool is_given_back(size_t n);
+void erase(const argon2_context *c, block *blocks, size_t apart);
 void free_blocks(block *blocks, size_t n);
 
 /* argon2.c */

@@ -5,7 +5,7 @@
 #include <stdio.h>
 #include <string.h>
 
-static int passed, failed;
+static int passed, failed, skipped;
 
 /* Counts a check. `what` says what is checked, and `row` is its row or a number that was found. */
 static void check(bool holds, const char *what, long row) {
@@ -15,7 +15,9 @@ static void check(bool holds, const char *what, long row) {
 
 /* Prints the counts, and returns the status of the program. */
 static int ended(void) {
-    printf("%d passed, %d failed\n", passed, failed);
+    printf("%d passed, %d failed", passed, failed);
+    if (skipped) printf(", %d skipped", skipped);
+    printf("\n");
     return failed != 0 || passed == 0;
 }
 

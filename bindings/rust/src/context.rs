@@ -68,7 +68,7 @@ impl<'key> Argon2<'key> {
         &self.params
     }
 
-    /// Fills `out` with the tag of a password and a salt. The memory comes from `malloc`, and is wiped.
+    /// Fills `out` with the tag of a password and a salt. The memory comes from `malloc`, and is erased.
     ///
     /// # Errors
     /// The first of these that holds; `out` is then as before:
