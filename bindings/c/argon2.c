@@ -3,11 +3,9 @@
  * requests no memory, because the C lends it memory. The C turns null pointers, C strings and contexts into arguments of the crate,
  * requests memory, copies what overlaps, calls the callbacks, wipes memory, and contains the constant texts.
  */
-#define _GNU_SOURCE
 #include "private.h"
 
 #include <stdlib.h>
-#include <string.h>
 
 /* ---- hashing */
 
@@ -35,7 +33,8 @@ struct request requested(const argon2_context *c, argon2_type type) {
 
 static int refusal(const argon2_context *c, argon2_type type) {
     const struct request request = requested(c, type);
-    return argon2_c_refusal(&request, c->outlen, c->pwdlen, c->saltlen, c->secretlen, c->adlen);
+    const int answer = argon2_c_refusal(&request, c->outlen, c->pwdlen, c->saltlen, c->secretlen, c->adlen);
+    return answer == ARGON2_OK && block_count(c) > MOST_BLOCKS ? ARGON2_MEMORY_ALLOCATION_ERROR : answer;
 }
 
 /* Hashes as a context states, on `memory`, into `out`. The context is not refused. `out` has the length in the context, and
@@ -121,7 +120,7 @@ int argon2_hash(uint32_t t_cost, uint32_t m_cost, uint32_t lanes, const void *pw
         room = argon2_encodedlen(t_cost, m_cost, lanes, c.saltlen, c.outlen, type);
         if (encodedlen < room) return ARGON2_ENCODING_FAIL;
     }
-    c.out = malloc(hashlen + room);
+    c.out = hashlen <= SIZE_MAX - room ? malloc(hashlen + room) : NULL;
     if (!c.out) return ARGON2_MEMORY_ALLOCATION_ERROR;
     answer = hash_into(&c, type, c.out);
     if (answer == ARGON2_OK && room) {
@@ -154,7 +153,7 @@ static size_t used(const struct shown *shown, int answer, const char *text, size
 /* By the law `verifying` of argon2_c, all three calls of the crate return 0 if and only if neither the call nor the text has a
  * fault, and the hash of the text is the tag of the password. */
 int argon2_verify(const char *encoded, const void *pwd, size_t pwdlen, argon2_type type) {
-    const size_t n = encoded ? strlen(encoded) : 0;
+    const size_t n = encoded ? strnlen(encoded, SIZE_MAX / 2) : 0;
     uint8_t *const room = malloc(2 * n); /* for what the text says, and for the tag that is made: two bytes for each of the text */
     struct shown shown = {0};
     int answer = argon2_c_decode(type, encoded != NULL, some(encoded), n, pwdlen, !pwd && pwdlen, &shown, some(room),

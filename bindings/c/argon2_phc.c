@@ -2,12 +2,7 @@
  * The functions of argon2_phc.h, over the module phc of the crate argon2_c. The crate reads and writes texts, decides what
  * is refused, and verifies. The C reads structures, finds null pointers and overlaps, draws salts, and lends memory.
  */
-#define _GNU_SOURCE
 #include "private.h"
-
-#include <errno.h>
-#include <string.h>
-#include <sys/random.h>
 
 _Static_assert(sizeof(argon2p_shown) == offsetof(argon2p_shown, name_len) + sizeof(struct phc_shown)
     && offsetof(argon2p_shown, data) == offsetof(argon2p_shown, name_len) + offsetof(struct phc_shown, associated),
@@ -92,15 +87,6 @@ static int encode(const struct call *call, bytes salt, size_t salt_len, bytes ha
     const argon2p_params *p = &call->params;
     return argon2_c_phc_encode(&call->request, some(p->keyid), p->keyid_len, some(p->data), p->data_len, salt, salt_len, hash,
         hash_len, made, ARGON2P_TEXT_SIZE);
-}
-
-static bool is_drawn(uint8_t *at, size_t n) {
-    const int error = errno;
-    ssize_t got;
-    do got = getrandom(at, n, 0);
-    while (got < 0 && errno == EINTR);
-    errno = error;
-    return got == (ssize_t)n;
 }
 
 /* Returns ARGON2P_OK if the stored hash of a call with a salt of this length fits into `room` bytes. */

@@ -4,29 +4,25 @@
  *
  * The memory of a hash, and how secrets are wiped from memory, from the stack and from registers.
  */
-#define _GNU_SOURCE
 #include "private.h"
 
-#include <errno.h>
 #include <stdlib.h>
-#include <string.h>
-#include <sys/mman.h>
 
 /* ---- wiping */
-
-_Alignas(block) uint8_t nothing[1];
 
 int FLAG_clear_internal_memory = 1;
 
 /* Clears the registers that a call may change, if the compiler can do this. Vector registers may contain a part of a tag. */
 #if __has_attribute(zero_call_used_regs)
-__attribute__((noinline, zero_call_used_regs("all")))
+__attribute__((zero_call_used_regs("all")))
 #endif
-static void clear_known_registers(void) {
+NOINLINE static void clear_known_registers(void) {
+#ifdef __GNUC__
     __asm__ volatile("");
+#endif
 }
 
-#ifdef __x86_64__
+#if defined __GNUC__ && defined __x86_64__
 /* Clears the registers that only AVX-512 has. glibc copies with them, and code compiled without AVX-512 can't clear them. */
 __attribute__((noinline, target("avx512f"))) static void clear_further_registers(void) {
     __asm__ volatile(
@@ -39,7 +35,7 @@ __attribute__((noinline, target("avx512f"))) static void clear_further_registers
 #endif
 
 static void clear_registers(void) {
-#ifdef __x86_64__
+#if defined __GNUC__ && defined __x86_64__
     if (__builtin_cpu_supports("avx512f")) clear_further_registers();
 #endif
     clear_known_registers();
@@ -59,7 +55,7 @@ void wipe_and_free(uint8_t *at, size_t n) {
 }
 
 /* Wipes what the crate's functions left on the stack. They use about 13 KiB of it. */
-__attribute__((noinline)) void wipe_stack(void) {
+NOINLINE void wipe_stack(void) {
     uint8_t below[20 << 10];
     wipe(below, sizeof below);
 }
@@ -71,11 +67,9 @@ enum { LINES = 128, HUGE_PAGE = 2 << 20, LARGE = 4 << 20, MAPPED = 32 << 20 };
 /* Asks for huge pages for large memory, which saves most page faults. Before the memory is freed, this asks for small pages
  * again, so that what the program puts there later does not take more memory than it uses. It is no error if the system
  * refuses. */
-static void advise(block *blocks, size_t n, int advice) {
-    const int error = errno;
+static void advise_blocks(block *blocks, size_t n, int advice) {
     const size_t whole = n * sizeof *blocks, before = -(uintptr_t)blocks % HUGE_PAGE; /* the bytes up to the first huge page */
-    if (whole >= LARGE) (void)madvise((uint8_t *)blocks + before, (whole - before) / HUGE_PAGE * HUGE_PAGE, advice);
-    errno = error;
+    if (whole >= LARGE) advise((uint8_t *)blocks + before, (whole - before) / HUGE_PAGE * HUGE_PAGE, advice);
 }
 
 /* Returns the blocks of a hash, which begin on a line of the cache. The address that malloc gave is stored before them.
@@ -84,12 +78,12 @@ static void advise(block *blocks, size_t n, int advice) {
  * blocks begin with a huge page. */
 block *new_blocks(size_t n) {
     const size_t whole = n * sizeof(block), multiple = whole < MAPPED ? LINES : HUGE_PAGE;
-    uint8_t *const given = malloc(whole + multiple + sizeof given), *at;
+    uint8_t *const given = n <= MOST_BLOCKS ? malloc(whole + multiple + sizeof given) : NULL, *at;
     if (!given) return NULL;
     at = given + sizeof given;
     at += -(uintptr_t)at % multiple;
     memcpy(at - sizeof given, &given, sizeof given);
-    advise((block *)at, n, MADV_HUGEPAGE);
+    advise_blocks((block *)at, n, MADV_HUGEPAGE);
     return (block *)at;
 }
 
@@ -103,9 +97,7 @@ bool is_given_back(size_t n) {
 /* Gives huge pages back to the system, and returns whether they then read as zeros. Locked memory can't be given back. Memory from
  * a malloc of the program may be of a file, or shared with another process, and then it keeps its bytes. */
 static bool are_zeros_now(block *blocks, size_t n) {
-#ifdef MADV_DONTNEED
-    if (madvise(blocks, n * sizeof *blocks, MADV_DONTNEED) != 0) return false;
-#endif
+    if (!give_back(blocks, n * sizeof *blocks)) return false;
     for (size_t last = BLOCKS_OF_PAGE - 1; last < n; last += BLOCKS_OF_PAGE)
         if (*(const volatile uint64_t *)&blocks[last].words[127] != 0) return false;
     return true;
@@ -131,7 +123,7 @@ void erase(const argon2_context *c, block *blocks, size_t apart) {
 
 void free_blocks(block *blocks, size_t n) {
     uint8_t *given, *const at = (uint8_t *)blocks - sizeof given;
-    advise(blocks, n, MADV_NOHUGEPAGE);
+    advise_blocks(blocks, n, MADV_NOHUGEPAGE);
     memcpy(&given, at, sizeof given);
     wipe(at, sizeof given);
     free(given);

@@ -8,22 +8,26 @@
 #ifndef ARGON2_PRIVATE_H
 #define ARGON2_PRIVATE_H
 
+#include "port.h"
+
 #include "argon2.h"
 #include "argon2_phc.h"
 
-#include <stdbool.h>
-
+#ifdef __GNUC__
 #pragma GCC visibility push(hidden)
+#endif
 
 /* ---- what the crate exports (a slice is a pointer, which is never null, and a length) */
 
-_Static_assert(sizeof(size_t) == 8, "the crate's lengths have 64 bits");
-
+/* (the crate's lengths have 64 bits, and its words of 64 bits lie at multiples of 8) */
 typedef const uint8_t *bytes;
 
 typedef struct {
-    uint64_t words[128];
+    _Alignas(8) uint64_t words[128];
 } block;
+
+/* More blocks can't be in memory. (4 MiB are for what malloc and new_blocks put beside them.) */
+#define MOST_BLOCKS ((SIZE_MAX - (4 << 20)) / sizeof(block))
 
 struct request {
     uint32_t algorithm, version, m_cost, t_cost, lanes, threads;
@@ -42,7 +46,7 @@ size_t argon2_c_encoded_length(uint32_t algorithm, uint32_t m_cost, uint32_t t_c
 /* What a text says. Its salt and its tag are at the beginning of the room that was lent for them. */
 struct shown {
     uint32_t version, m_cost, t_cost, lanes;
-    size_t salt, tag; /* lengths */
+    _Alignas(8) uint64_t salt, tag; /* lengths */
 };
 
 int32_t argon2_c_decode(uint32_t algorithm, bool has_text, bytes text, size_t, size_t pwd, bool lacks_pwd, struct shown *,
@@ -73,7 +77,7 @@ struct phc_shown {
 };
 
 struct phc_lengths {
-    size_t keyid, associated, secret, output;
+    _Alignas(8) uint64_t keyid, associated, secret, output;
     bool has_output;
 };
 
@@ -98,7 +102,7 @@ int32_t argon2_c_fill(const struct request *, bytes pwd, size_t, bytes salt, siz
 /* ---- what the files share */
 
 /* Stands for a null pointer, with length 0. */
-extern _Alignas(block) uint8_t nothing[1];
+static _Alignas(block) uint8_t nothing[1];
 
 static inline uint8_t *some(const void *at) { return at ? (uint8_t *)at : nothing; }
 static inline size_t length(const void *at, size_t n) { return at ? n : 0; }
@@ -133,6 +137,8 @@ uint32_t worker_count(const argon2_context *c);
 int hash_in_threads(const argon2_context *c, const struct request *request, uint8_t *out, block *memory, bool wipes,
     uint32_t workers);
 
+#ifdef __GNUC__
 #pragma GCC visibility pop
+#endif
 
 #endif

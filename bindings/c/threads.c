@@ -17,13 +17,7 @@
  *   argon2_c_finish returns.
  * - The answer of each call is checked. If an answer is not 0, no tag is returned.
  */
-#define _GNU_SOURCE
 #include "private.h"
-
-#include <errno.h>
-#include <pthread.h>
-#include <sched.h>
-#include <signal.h>
 
 enum {
     FROM_HERE_IN_THREADS = 4 << 10, /* blocks; with fewer blocks, threads save no time */
@@ -43,8 +37,8 @@ struct filling {
     block *blocks;
     size_t segment; /* the number of its blocks */
     uint32_t workers; /* the number of threads, with the caller's */
-    pthread_mutex_t lock; /* for the members after it */
-    pthread_cond_t changed;
+    mutex lock; /* for the members after it */
+    condition changed;
     uint32_t pass, slice;
     uint32_t taken, filled; /* lanes of the slice; all count as taken until the first slice is begun */
     uint32_t unwiped; /* segments of the first three slices; they are wiped when all slices are filled */
@@ -54,13 +48,11 @@ struct filling {
 /* Returns how many threads make a hash, with the caller's. */
 uint32_t worker_count(const argon2_context *c) {
     const uint32_t useful = c->threads < c->lanes ? c->threads : c->lanes;
-    const int error = errno;
-    uint32_t usable = CPU_SETSIZE;
-    cpu_set_t set;
+    uint32_t usable;
     if (useful == 1 || block_count(c) < FROM_HERE_IN_THREADS) return 1;
-    if (sched_getaffinity(0, sizeof set, &set) == 0) usable = (uint32_t)CPU_COUNT(&set);
-    errno = error;
-    if (usable == 0) return 1; /* a filter of system calls can report success and write nothing */
+    usable = processor_count();
+    if (usable == 0) return 1;
+    if (usable > MOST_THREADS) usable = MOST_THREADS;
     return useful < usable ? useful : usable;
 }
 
@@ -78,11 +70,11 @@ static int fill_segments(const struct filling *f, uint32_t pass, uint32_t slice,
 
 /* Lets the threads begin to fill, or lets them end if the first slice was not begun. */
 static void begin_filling(struct filling *f, int answer) {
-    pthread_mutex_lock(&f->lock);
+    lock(&f->lock);
     f->answer = answer;
     f->taken = 0;
-    pthread_cond_broadcast(&f->changed);
-    pthread_mutex_unlock(&f->lock);
+    wake_all(&f->changed);
+    unlock(&f->lock);
 }
 
 /* Counts lanes as filled. After the last lane of a slice the next slice begins. */
@@ -92,94 +84,66 @@ static void count_filled(struct filling *f, uint32_t n) {
     f->taken = f->filled = 0;
     f->pass += f->slice == 3;
     f->slice = (f->slice + 1) % 4;
-    pthread_cond_broadcast(&f->changed);
+    wake_all(&f->changed);
 }
 
 /* Waits about a microsecond. */
 static void wait_briefly(void) {
-    for (int i = 0; i < 16; i++) {
-#ifdef __x86_64__
-        __builtin_ia32_pause();
-#else
-        __asm__ volatile("yield");
-#endif
-    }
+    for (int i = 0; i < 16; i++) relax();
 }
 
 /* Takes lanes of the current slice and fills their segments, until the last slice is filled. Returns 0 in all threads if each
  * segment was filled, and in no thread otherwise. */
 static int fill_slices(struct filling *f) {
     int result, looks = 0;
-    pthread_mutex_lock(&f->lock);
+    lock(&f->lock);
     while (f->pass < f->context->t_cost && f->answer == ARGON2_OK) {
         const uint32_t pass = f->pass, slice = f->slice, lane = f->taken;
         const uint32_t n = (f->context->lanes - lane + 2 * f->workers - 1) / (2 * f->workers);
         int answer;
         if (n == 0) {
             if (looks++ < LOOKS) { /* a thread that sleeps may wake too late for its share of a short slice */
-                pthread_mutex_unlock(&f->lock);
+                unlock(&f->lock);
                 wait_briefly();
-                pthread_mutex_lock(&f->lock);
+                lock(&f->lock);
             } else {
-                pthread_cond_wait(&f->changed, &f->lock);
+                sleep_until(&f->changed, &f->lock);
             }
             continue;
         }
         looks = 0;
         f->taken += n;
         if (RACES) count_filled(f, n);
-        pthread_mutex_unlock(&f->lock);
+        unlock(&f->lock);
         answer = fill_segments(f, pass, slice, lane, n);
-        pthread_mutex_lock(&f->lock);
+        lock(&f->lock);
         if (!RACES) count_filled(f, n);
         if (answer != ARGON2_OK) {
             f->answer = answer;
-            pthread_cond_broadcast(&f->changed);
+            wake_all(&f->changed);
         }
     }
     result = f->answer;
-    pthread_mutex_unlock(&f->lock);
+    unlock(&f->lock);
     wipe_stack();
     return result;
 }
 
 /* Wipes segments of the first three slices, until none is left. Meanwhile the tag is made of the last slice. */
 static void wipe_slices(struct filling *f) {
-    pthread_mutex_lock(&f->lock);
+    lock(&f->lock);
     while (f->unwiped > 0) {
         block *at = f->blocks + --f->unwiped * f->segment;
-        pthread_mutex_unlock(&f->lock);
+        unlock(&f->lock);
         wipe(at, f->segment * sizeof *at);
-        pthread_mutex_lock(&f->lock);
+        lock(&f->lock);
     }
-    pthread_mutex_unlock(&f->lock);
+    unlock(&f->lock);
 }
 
-static void *work(void *filling) {
+WORK work(void *filling) {
     if (fill_slices(filling) == ARGON2_OK) wipe_slices(filling);
-    return NULL;
-}
-
-/* Starts as many of the other threads as can be started, and returns how many. They accept no signals except the signals of
- * their own faults. */
-static uint32_t start_threads(struct filling *f, pthread_t *threads) {
-    static const int faults[] = {SIGSEGV, SIGBUS, SIGILL, SIGFPE, SIGTRAP, SIGSYS};
-    const int error = errno;
-    uint32_t started = 0;
-    pthread_attr_t attributes;
-    size_t size = 0;
-    sigset_t blocked, before;
-    if (pthread_attr_init(&attributes) != 0) return 0;
-    pthread_attr_getstacksize(&attributes, &size);
-    pthread_attr_setstacksize(&attributes, size + STACK);
-    sigfillset(&blocked);
-    for (size_t i = 0; i < sizeof faults / sizeof *faults; i++) sigdelset(&blocked, faults[i]);
-    pthread_sigmask(SIG_BLOCK, &blocked, &before);
-    while (started + 1 < f->workers && pthread_create(&threads[started], &attributes, work, f) == 0) started++;
-    pthread_sigmask(SIG_SETMASK, &before, NULL);
-    pthread_attr_destroy(&attributes);
-    errno = error;
-    return started;
+    return 0;
 }
 
 /* Hashes as `argon2_c_hash` does, with at most `workers` threads. The threads that it starts have ended when it returns. */
@@ -190,13 +154,12 @@ int hash_in_threads(const argon2_context *c, const struct request *request, uint
     struct filling f = {
         .context = c, .request = request, .blocks = memory, .segment = width / c->lanes, .workers = workers,
         .taken = c->lanes,
-        .unwiped = wipes ? 3 * c->lanes : 0, .lock = PTHREAD_MUTEX_INITIALIZER, .changed = PTHREAD_COND_INITIALIZER,
+        .unwiped = wipes ? 3 * c->lanes : 0, .lock = MUTEX, .changed = CONDITION,
     };
-    pthread_t threads[CPU_SETSIZE];
-    uint32_t started;
-    int cancelling, answer;
-    pthread_setcancelstate(PTHREAD_CANCEL_DISABLE, &cancelling);
-    started = start_threads(&f, threads);
+    thread threads[MOST_THREADS];
+    const int cancelling = hold_cancelling();
+    uint32_t started = start_all(threads, workers - 1, work, &f, STACK);
+    int answer;
     answer = argon2_c_begin(request, INPUTS(c), c->outlen, memory, width);
     begin_filling(&f, answer);
     answer = fill_slices(&f);
@@ -205,8 +168,8 @@ int hash_in_threads(const argon2_context *c, const struct request *request, uint
         if (wipes) wipe(last, width * sizeof *last);
         wipe_slices(&f);
     }
-    while (started > 0) pthread_join(threads[--started], NULL);
-    pthread_setcancelstate(cancelling, NULL);
+    while (started > 0) join(threads[--started]);
+    restore_cancelling(cancelling);
     wipe_stack();
     if (wipes && answer != ARGON2_OK) wipe(memory, 4 * width * sizeof(block));
     return answer;
