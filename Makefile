@@ -9,7 +9,7 @@ VERSION := $(shell cat VERSION)
 # The level of this processor, for which a clone's own commands are.
 HERE := $(shell build/processor)
 
-.PHONY: all help test bench install uninstall libargon2 install-libargon2 uninstall-libargon2 npm release clean
+.PHONY: all help test bench install uninstall libargon2 install-libargon2 uninstall-libargon2 npm c-file release clean
 .DELETE_ON_ERROR:
 
 all: $(COMMANDS)
@@ -23,6 +23,7 @@ help:
 	@echo 'make install-libargon2 installs that library beside the one of the system, with DROP_IN=yes in its place'
 	@echo 'make uninstall, make uninstall-libargon2'
 	@echo 'make npm           builds the package for npm in out/npm'
+	@echo 'make c-file        makes the library for C as one file of C, for each system, in out/c-file'
 	@echo 'make release       makes the files of a release in out/release (build/release --help says what it needs)'
 	@echo 'make bench         times a hash beside other programs'
 	@echo 'make clean         removes all that was made'
@@ -85,6 +86,8 @@ uninstall-libargon2:
 	build/uninstall-libargon2 $(drop_in) --prefix "$(PREFIX)"
 npm:
 	$(needs)build/npm out/npm
+c-file:
+	$(needs)build/c-file out/c-file
 release:
 	$(needs)build/release out/release
 

@@ -10,6 +10,7 @@ import importlib.util
 import itertools
 import random
 import re
+import resource
 import subprocess
 
 # Words at the edges of the types, and random ones.
@@ -110,6 +111,11 @@ REFUSED = [
     ('(data (i64.const 8) "x")', "a constant does not begin at the base"),
     ('(data "x")', "a constant has no place"),
 ]
+
+
+def limit_processor():
+    """Ends a process of its caller after 20 seconds of a processor, because a fault may lead to a loop that does not end."""
+    resource.setrlimit(resource.RLIMIT_CPU, (20, 20))
 
 
 def load(translator):
@@ -278,7 +284,7 @@ def differing(folder, prepared, translator, machine, cc, run):
     found = [name for name, (size, _) in STACKS.items() if stacks.get(name) != str(size)]
     words = ["-I", folder, "-I", machine, "-I", source, "-o", f"{folder}/instructions", f"{source}/instructions.c"]
     subprocess.run([*cc, "-Wno-error", *words], check=True, **how)
-    ran = subprocess.run([*run, f"{folder}/instructions"], timeout=300, **how)
+    ran = subprocess.run([*run, f"{folder}/instructions"], preexec_fn=limit_processor, **how)
     sums = ran.stdout.split()
     if len(sums) != len(wanted):
         return [f"the program ended with {ran.returncode} after {len(sums)} functions"]
