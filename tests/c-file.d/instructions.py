@@ -114,8 +114,8 @@ REFUSED = [
 
 
 def limit_processor():
-    """Ends a process of its caller after 20 seconds of a processor, because a fault may lead to a loop that does not end."""
-    resource.setrlimit(resource.RLIMIT_CPU, (20, 20))
+    """Ends a process of its caller after 10 seconds of a processor, because a fault may lead to a loop that does not end."""
+    resource.setrlimit(resource.RLIMIT_CPU, (10, 10))
 
 
 def load(translator):
