@@ -58,6 +58,7 @@ CONTROL = {
     "memory.copy: down": "(memory.copy ({p}.add (local.get 0) ({p}.const 5)) ({p}.add (local.get 0) ({p}.const 9)) ({p}.const 14)) (i64.const 0)",
     "memory.copy: nothing": "(memory.copy (local.get 0) ({p}.add (local.get 0) ({p}.const 9)) ({p}.const 0)) (i64.const 0)",
     "memory.fill: some bytes": """(memory.fill ({p}.add (local.get 0) ({p}.const 41)) (i32.wrap_i64 (local.get 2)) {of1}) (i64.const 0)""",
+    "memory.fill: 13 bytes": "(memory.fill ({p}.add (local.get 0) ({p}.const 41)) (i32.wrap_i64 (local.get 2)) ({p}.const 13)) (i64.const 0)",
     "call: a shift of 128 bits to the left": """(call $ashlti3 ({p}.add (local.get 0) ({p}.const 40)) (local.get 1) (local.get 3)
         (i32.wrap_i64 (i64.and (local.get 2) (i64.const 127)))) (i64.const 0)""",
     "call: a shift of 128 bits to the right": """(call $lshrti3 ({p}.add (local.get 0) ({p}.const 40)) (local.get 1) (local.get 3)
@@ -108,8 +109,7 @@ REFUSED = [
     ('(func (export "__wasm_apply_data_relocs") (nop))', "is not empty"),
     ('(func (export "f") (param i64) (result i64) (local.get 0) (block (param i64) (result i64)))', "a block has operands"),
     ('(table 1 funcref) (func (export "f") (param i64) (call_indirect (param i64) (local.get 0) (i32.const 0)))', "is not known"),
-    ('(data (i64.const 8) "x")', "a constant does not begin at the base"),
-    ('(data "x")', "a constant has no place"),
+    ('(data (i64.const 8) "x")', "the constants do not have one place"),
 ]
 
 

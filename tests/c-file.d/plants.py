@@ -35,11 +35,10 @@ PLANTS = [
     Plant("a branch to a loop leads to its end", TRANSLATOR, 'if label.is_used and label.kind == "loop":', "if False:"),
     Plant("what follows a block is lost", TRANSLATOR, 'or label.is_used and label.kind != "loop":', "or False:"),
     Plant("a rotation turns to the left", TRANSLATOR, "lanes == [8 * word + (at + count) % 8", "lanes == [8 * word + (at - count) % 8"),
-    Plant("a constant has another place", TRANSLATOR, "return code[1][1][0]", "return code[1][1][0] + 1"),
     Plant("a negative constant loses its sign", TRANSLATOR, "UINT64_C({immediates[0] % 2 ** bits})", "UINT64_C({abs(immediates[0])})"),
     Plant("operands of a call are reversed", TRANSLATOR, 'operands.insert(0, "sp")', 'operands = ["sp", *operands[::-1]]'),
     Plant("a frame is not counted", TRANSLATOR, "frame = max(frame, code[at + 1][1][0])", "frame = max(frame, 0)"),
-    Plant("the depth of a call is not added", TRANSLATOR, "return active * body.frame + max(", "return max(active * body.frame, "),
+    Plant("the depth of a call is not added", TRANSLATOR, "return active * body.frame + max(", "return active * body.frame or max("),
     Plant("only one call of itself is counted", TRANSLATOR, "active = ACTIVE.get(function.name) or", "active = 1 if function.name in ACTIVE else"),
     # the instructions of machine.h
     Plant("a load of a byte loses the sign", MACHINE, "return (u32)(s32)(s8)read8(at)", "return read8(at)"),
