@@ -12,12 +12,23 @@
 
 int FLAG_clear_internal_memory = 1;
 
-/* Clears the registers that a call may change, if the compiler can do this. Vector registers may contain a part of a tag. */
+/* Clears the registers that a call may change, if the compiler can do this. Vector registers may contain a part of a tag. Clang has
+ * the attribute from version 15 on. */
 #if __has_attribute(zero_call_used_regs)
 __attribute__((zero_call_used_regs("all")))
 #endif
 NOINLINE static void clear_known_registers(void) {
-#ifdef __GNUC__
+#if defined __clang__ && defined __x86_64__ && !__has_attribute(zero_call_used_regs)
+    __asm__ volatile(
+        ".irp n, 0, 1, 2, 3, 4, 5, 6, 7, 8, 9, 10, 11, 12, 13, 14, 15\n\t"
+        "pxor %%xmm\\n, %%xmm\\n\n\t"
+        ".endr\n\t"
+        ".irp n, eax, ecx, edx, esi, edi, r8d, r9d, r10d, r11d\n\t"
+        "xorl %%\\n, %%\\n\n\t"
+        ".endr"
+        ::: "rax", "rcx", "rdx", "rsi", "rdi", "r8", "r9", "r10", "r11", "xmm0", "xmm1", "xmm2", "xmm3", "xmm4", "xmm5", "xmm6",
+        "xmm7", "xmm8", "xmm9", "xmm10", "xmm11", "xmm12", "xmm13", "xmm14", "xmm15", "cc");
+#elif defined __GNUC__
     __asm__ volatile("");
 #endif
 }
