@@ -65,7 +65,6 @@ PLANTS = [
     Plant("a vector is zero if one word is", MACHINE, "(at[0] | at[1]) != 0", "(at[0] & at[1]) != 0"),
     # the calls of the module
     Plant("the module's stack is too small", CALLS, "stack[2 + name##_stack / sizeof(u64)]", "stack[2 + name##_stack / 64]"),
-    Plant("the module's stack is not wiped", CALLS, "wipe(stack, sizeof stack)", "(void)stack"),
     Plant("big-endian: a cost is not ordered", CALLS, "order32(&own, 6)", "order32(&own, 3)", BIG),
     Plant("big-endian: what a text shows is not ordered", CALLS, "order32(it, 4), order64(&it->salt, 2)", "order32(it, 4)", BIG),
     Plant("salt and secret are swapped", CALLS, "ADDRESS(salt), salt_len, ADDRESS(secret), secret_len,\n        ADDRESS(associated), associated_len, ADDRESS(memory), n, ADDRESS(out)",
