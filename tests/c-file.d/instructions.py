@@ -282,9 +282,9 @@ def differing(folder, prepared, translator, machine, cc, run):
     with open(f"{folder}/wide.inc", encoding="utf-8") as file:
         stacks = dict(re.findall(r"^  (\w+)_stack = (\d+),$", file.read(), re.MULTILINE))
     found = [name for name, (size, _) in STACKS.items() if stacks.get(name) != str(size)]
-    words = ["-I", folder, "-I", machine, "-I", source, "-o", f"{folder}/instructions", f"{source}/instructions.c"]
+    words = ["-I", folder, "-I", machine, "-I", source, "-o", f"{folder}/instructions.exe", f"{source}/instructions.c"]
     subprocess.run([*cc, "-Wno-error", *words], check=True, **how)
-    ran = subprocess.run([*run, f"{folder}/instructions"], preexec_fn=limit_processor, **how)
+    ran = subprocess.run([*run, f"{folder}/instructions.exe"], preexec_fn=limit_processor, **how)
     sums = ran.stdout.split()
     if len(sums) != len(wanted):
         return [f"the program ended with {ran.returncode} after {len(sums)} functions"]
