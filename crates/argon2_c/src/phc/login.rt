@@ -80,8 +80,8 @@ fn wanted_refusal(
     }
 }
 
-/// Whether a text that accepted a password is to be replaced: 1 if the old secret accepted the password, or if the text is weaker
-/// than the parameters of new hashes, of which each has `output` bytes. Otherwise 0.
+/// Whether a text that accepted a password is to be replaced. Each new hash has `output` bytes. The answer is 1 if the old secret
+/// accepted the password, or if the text is weaker than new hashes, and otherwise 0.
 ///
 /// # Errors
 /// The first of these that holds:
