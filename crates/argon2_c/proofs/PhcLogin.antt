@@ -1,19 +1,15 @@
 -- What the calls of a login amount to.
-use Rattle.std.proofs.Common.{◌≡◌, ◌⊎◌, inl, inr, ℕ, ◌≤◌, ◌<◌, ◌^◌, ◌*◌, nat_lt, ◌==◌, ◌&&◌, not, Bool, true, false, ℤ, List, [], length, Option, Some, None, Result, Ok, Err, arith, refl, sym, subst, ap, ◌∙◌}
-use Rattle.std.specs.Prelude.{IsSomeAnd, IsTrue, option_map, unwrap_or}
-use Rattle.std.specs.Option.{option_or}
+use Rattle.std.proofs.Common.{◌≡◌, ◌⊎◌, inl, inr, ℕ, ◌≤◌, ◌*◌, not, Bool, true, false, ℤ, List, length, Option, Some, None, Result, Ok, arith, refl, sym, subst, ap, ◌∙◌}
+use Rattle.std.specs.Prelude.{IsTrue, unwrap_or}
 use Rattle.std.proofs.lemmas.Bool.Decides.{nat_tests}
 use Rattle.argon2_base.specs.Error.{Fault}
 use Rattle.argon2_base.specs.PhcText.{HasBytes, IsPhc, Phc, IsPhcText, phc_text}
-use Rattle.argon2.specs.Argon2.{context_with}
 use Rattle.argon2.specs.Bound.{AcceptsWithin, AsksWithin}
-use Rattle.argon2.specs.ListedParameters.{list_of, parameter_items}
-use Rattle.argon2.specs.Policy.{AcceptsByOld, AreNoWeaker, IsNoWeaker, IsOutdated}
+use Rattle.argon2.specs.Policy.{AreNoWeaker, IsNoWeaker, IsOutdated}
 use Rattle.argon2.specs.Refusals.{first_of, max_len}
-use Rattle.argon2.specs.Rfc9106.{tag_of}
-use Rattle.argon2.specs.Settings.{Parameters, SettingsValue, algorithm_name, algorithm_number, first_fault, max_lanes, version_number}
+use Rattle.argon2.specs.Settings.{SettingsValue, algorithm_name, algorithm_number, first_fault, max_lanes}
 use Rattle.argon2.specs.StoredTexts.{AcceptsBy, shown_settings}
-use Rattle.argon2.specs.TextHashing.{IsFresh, IsTarget, TargetValue, hash_value, tag_length}
+use Rattle.argon2.specs.TextHashing.{IsTarget, TargetValue, hash_value, tag_length}
 use Rattle.argon2.proofs.password_hash_lemmas.MadeValues.{made_is_phc}
 use Rattle.argon2.specs.declared.algorithm.Algorithm.{Algorithm}
 use Rattle.argon2.specs.declared.algorithm.Algorithm.TheVariants.{Argon2d, Argon2i, Argon2id}
@@ -23,11 +19,10 @@ use Rattle.argon2_c.specs.declared.request.Request.{Request}
 use Rattle.argon2_c.specs.Logins.{IsAcceptedLogin, IsLogin, IsVerified, IsWritten, Login, policy_with}
 use Rattle.argon2_c.specs.PhcAdmission.{bound_of}
 use Rattle.argon2_c.specs.PhcLogin.{AreRenewing, AreWanted, IsDueCode}
-use Rattle.argon2_c.specs.PhcRequests.{AreTaken, error_code, own_faults, params_refusal, value_with}
-use Rattle.argon2_c.specs.Requests.{IsFaultless, request_context}
+use Rattle.argon2_c.specs.PhcRequests.{own_faults, params_refusal, value_with}
+use Rattle.argon2_c.specs.Requests.{IsFaultless}
 use Rattle.argon2_c.specs.Texts.{name_numbered}
-use Rattle.argon2_c.specs.Verification.{BoundVerification, IsAcceptedWithin}
-use Rattle.argon2_c.proofs.PhcVerified.{IsVerified-accepted}
+use Rattle.argon2_c.proofs.PhcVerified.{IsVerified-accepted, Ok-injective}
 
 -- ---- parameters of new hashes
 
@@ -97,10 +92,6 @@ module _ (c : Login) (renews : AreRenewing c.now.bound c.wanted c.output_set (le
 -- what a value that accepts shows
 accepting-shows : {secret password : List ℕ} {v : Phc} (a : AcceptsBy secret password v) → shown_settings v ≡ Ok a.settings
 accepting-shows a = rw (a.has_hash, a.has_parameters, a.has_algorithm, a.has_version) refl
-
--- two values of one result are equal
-Ok-injective : {X E : Type 0} {x y : X} (r : Result X E) → r ≡ Ok x → r ≡ Ok y → x ≡ y
-Ok-injective r is other = grind arith
 
 -- two values of one option are equal
 Some-injective : {X : Type 0} {x y : X} (o : Option X) → o ≡ Some x → o ≡ Some y → x ≡ y

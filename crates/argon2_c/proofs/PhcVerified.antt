@@ -34,7 +34,7 @@ Some-injective : {X : Type 0} {x y : X} → Some x ≡ Some y → x ≡ y
 Some-injective is = grind arith
 
 -- two values of one result are equal
-Ok-injective : {X E : Type 0} {x y : X} (r : Result X E) → r ≡ Ok x → r ≡ Ok y → x ≡ y
+pub Ok-injective : {X E : Type 0} {x y : X} (r : Result X E) → r ≡ Ok x → r ≡ Ok y → x ≡ y
 Ok-injective r is other = grind arith
 
 -- what admitting the text of a verification has found
